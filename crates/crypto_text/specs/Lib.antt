@@ -1,0 +1,1 @@
+-- What the public contracts of this crate cite.
