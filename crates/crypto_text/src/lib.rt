@@ -3,12 +3,35 @@
 //! of byte lists, of numbers, of bytes.
 #![tactic(auto)]
 
+mod alphabet;
+mod base64url;
+mod compare;
+mod hash_state;
+mod hexadecimal;
+mod hmac;
 mod ids;
+mod keyed;
+pub mod laws;
+mod md5_digest;
+mod numeral;
 mod octets;
+mod pbkdf2;
+#[cfg(test)]
+mod tests;
 mod text;
 mod text_list;
 
+pub use crate::alphabet::{Alphabet, pick, text_of};
+pub use crate::base64url::{
+    B64Fault, b64url_decode, b64url_decode_slice, b64url_encode, b64url_of_mac,
+};
+pub use crate::compare::same;
+pub use crate::hexadecimal::hex_of;
+pub use crate::hmac::{Hmac256, Salted, hmac_sha1, hmac_sha256, salted_hmac};
 pub use crate::ids::Ids;
+pub use crate::md5_digest::md5_hex;
+pub use crate::numeral::{b36_decode, b36_encode, b62_decode, b62_encode};
 pub use crate::octets::Bytes;
+pub use crate::pbkdf2::{pbkdf2_sha1, pbkdf2_sha256};
 pub use crate::text::Text;
 pub use crate::text_list::TextList;

@@ -1,0 +1,10 @@
+pub mod AlphabetLemmas
+pub mod DecodeSliceLemmas
+pub mod DerivedKeyLemmas
+pub mod DigestLemmas
+pub mod HexadecimalLemmas
+pub mod KeyedLemmas
+pub mod NumeralLemmas
+pub mod NumeralReading
+pub mod NumeralWriting
+pub mod Rfc4648Lemmas

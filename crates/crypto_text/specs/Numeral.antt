@@ -1,0 +1,42 @@
+-- Numerals in base 62 and base 36, after Django's `baseconv.base62` and `int_to_base36`.
+use Rattle.std.specs.Prelude.{◌≡◌, ℕ, ◌+◌, ◌*◌, ◌^◌, ◌<◌, ◌==◌, if◌then◌else◌, List, [], ◌∷◌, All, Contains, codes, length, map, slice_index}
+use Rattle.std.specs.Int.Digits.{digits_of}
+use Rattle.std.specs.List.{position_or_len}
+use Rattle.crypto_text.specs.declared.numeral.Base.{Base}
+use Rattle.crypto_text.specs.declared.numeral.Base.TheVariants.{Base36, Base62}
+
+-- the digits of base 62 in the order of their values
+unfoldable pub base62_digits : List ℕ
+base62_digits = codes "0123456789ABCDEFGHIJKLMNOPQRSTUVWXYZabcdefghijklmnopqrstuvwxyz"
+
+-- the digits of base 36 in the order of their values
+unfoldable pub base36_digits : List ℕ
+base36_digits = codes "0123456789abcdefghijklmnopqrstuvwxyz"
+
+-- a digit's value is its place among the digits; for a character that is none it is their number
+unfoldable pub digit_value : List ℕ → ℕ → ℕ
+digit_value digits c = position_or_len (λ digit. digit == c) digits
+
+-- every character of the text is a digit
+abbrev pub AreDigits : List ℕ → List ℕ → Type 0
+AreDigits digits text = All (Contains digits) text
+
+-- the sum of each digit's value times the base to the number of digits to its right
+unfoldable pub value_of : List ℕ → List ℕ → ℕ
+value_of digits [] = 0
+value_of digits (c ∷ rest) = digit_value digits c * length digits ^ length rest + value_of digits rest
+
+-- the text is a numeral of n; it may begin with zeros
+pub record IsNumeral (digits text : List ℕ) (n : ℕ) : Type 0 where
+  pub nonempty : 0 < length text
+  pub only_digits : AreDigits digits text
+  pub value : value_of digits text ≡ n
+
+-- the numeral of n without leading zero; that of zero is the digit zero
+unfoldable pub numeral_of : List ℕ → ℕ → List ℕ
+numeral_of digits n = if n == 0 then slice_index digits 0 ∷ [] else map (slice_index digits) (digits_of (length digits) n)
+
+-- the digits of a base
+abbrev pub digits_in : Base → List ℕ
+digits_in Base36 = base36_digits
+digits_in Base62 = base62_digits
