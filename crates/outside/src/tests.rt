@@ -1,0 +1,189 @@
+use super::*;
+use crypto_text::{Bytes, Ids};
+use std::alloc::{AllocError, Global};
+use std::fs;
+use std::io::{self, Read};
+use std::rt::Clock as SystemTime;
+use std::test::Fail;
+use std::time::Duration;
+
+fn source_of(alloc: Global, text: &[u8], fail_at: &[u64]) -> Result<MemSource, AllocError> {
+    Ok(MemSource::new(Bytes::of(alloc, text)?, 2, Ids::of(alloc, fail_at)?))
+}
+
+fn sink_of(alloc: Global, room: usize, fail_at: &[u64]) -> Result<MemSink, AllocError> {
+    MemSink::new(alloc, room, 3, Ids::of(alloc, fail_at)?)
+}
+
+#[test]
+fn a_source_gives_pieces_and_fails_where_it_is_told_to(rt: HostRuntime) -> Result<(), Fail> {
+    let mut source = source_of(rt.alloc(), b"hello", &[1])?;
+    let mut buf = [0u8; 4];
+    assert_eq!(rt; source.read(&mut buf), Ok(2));
+    assert_eq!(rt; buf, *b"he\0\0");
+    assert_eq!(rt; source.read(&mut buf), Err(Failed));
+    assert_eq!(rt; source.read_faults(), 1);
+    assert_eq!(rt; source.read(&mut buf), Ok(2));
+    assert_eq!(rt; source.read(&mut buf), Ok(1));
+    assert_eq!(rt; buf, *b"ol\0\0");
+    assert_eq!(rt; source.read(&mut buf), Ok(0));
+    Ok(())
+}
+
+#[test]
+fn a_source_is_read_to_its_end_or_a_limit(rt: HostRuntime) -> Result<(), Fail> {
+    let alloc = rt.alloc();
+    for (most, text) in [(9, "hello"), (5, "hello"), (3, "hel"), (0, "")] {
+        let mut source = source_of(alloc, b"hello", &[])?;
+        match read_up_to(alloc, &mut source, most) {
+            Ok(bytes) => assert_eq!(rt; bytes.as_slice(), text.as_bytes(), "{most}"),
+            Err(_) => panic!(rt; "{most} bytes are read"),
+        }
+    }
+    Ok(())
+}
+
+#[test]
+fn a_fault_in_the_middle_ends_the_reading(rt: HostRuntime) -> Result<(), Fail> {
+    let alloc = rt.alloc();
+    let mut source = source_of(alloc, b"hello", &[1])?;
+    match read_up_to(alloc, &mut source, 9) {
+        Ok(_) => panic!(rt; "a fault is told"),
+        Err(fault) => assert_eq!(rt; fault, InputFault::Failed),
+    }
+    Ok(())
+}
+
+#[test]
+fn a_sink_takes_pieces_while_it_has_room(rt: HostRuntime) -> Result<(), Fail> {
+    let mut sink = sink_of(rt.alloc(), 5, &[0])?;
+    assert_eq!(rt; sink.write(b"hello"), Err(Failed));
+    assert_eq!(rt; sink.write(b"hello"), Ok(3));
+    assert_eq!(rt; sink.write(b"lower"), Ok(2));
+    assert_eq!(rt; sink.write(b"w"), Err(Failed));
+    assert_eq!(rt; sink.write(b""), Ok(0));
+    assert_eq!(rt; sink.bytes(), b"hello".as_slice());
+    assert_eq!(rt; sink.write_faults(), 2);
+    Ok(())
+}
+
+#[test]
+fn a_whole_piece_is_written_or_a_prefix(rt: HostRuntime) -> Result<(), Fail> {
+    let mut whole = sink_of(rt.alloc(), 9, &[])?;
+    assert_eq!(rt; write_whole(&mut whole, b"hello"), Ok(()));
+    assert_eq!(rt; whole.bytes(), b"hello".as_slice());
+    let mut cut = sink_of(rt.alloc(), 9, &[1])?;
+    assert_eq!(rt; write_whole(&mut cut, b"hello"), Err(Failed));
+    assert_eq!(rt; cut.bytes(), b"hel".as_slice());
+    Ok(())
+}
+
+#[test]
+fn the_last_reading_of_a_clock_repeats(rt: HostRuntime) -> Result<(), Fail> {
+    let mut clock = MemClock::new(Ids::of(rt.alloc(), &[5, 7])?);
+    for reading in [5, 7, 7] {
+        assert_eq!(rt; clock.now(), reading);
+    }
+    let mut stopped = MemClock::new(Ids::of(rt.alloc(), &[])?);
+    assert_eq!(rt; stopped.now(), 0);
+    Ok(())
+}
+
+#[test]
+fn a_moment_stands_between_the_years_2001_and_9892(rt: HostRuntime) {
+    for (now, moment) in [
+        (0, 1_000_000_000),
+        (1_700_000_000, 1_700_000_000),
+        (u64::MAX, 250_000_000_000),
+    ] {
+        assert_eq!(rt; moment_of(now), moment);
+    }
+}
+
+#[test]
+fn a_request_draws_the_words_of_its_places(rt: HostRuntime) -> Result<(), Fail> {
+    let listed = Ids::of(rt.alloc(), &[11, 12])?;
+    if !ListWords::fits(&listed) {
+        panic!(rt; "small numbers are words");
+    }
+    let mut words = ListWords::new(listed, 9);
+    let drawn = draw_request(&mut words);
+    assert_eq!(rt; [drawn[0], drawn[1], drawn[2], drawn[1023]], [11, 12, 9, 9]);
+    assert_eq!(rt; words.next_word(), 9);
+    Ok(())
+}
+
+// RFC 8439, appendix A.1: the first and the second block of key 0 and nonce 0.
+#[test]
+fn chacha_words_are_those_of_rfc_8439(rt: HostRuntime) {
+    let drawn = draw_request(&mut ChaChaWords::new([0; 32], 0));
+    for (place, word) in [
+        (0, 0xade0_b876),
+        (1, 0x903d_f1a0),
+        (15, 0x8665_eeb2),
+        (16, 0xbee7_079f),
+        (17, 0x7a38_5155),
+    ] {
+        assert_eq!(rt; drawn[place], word, "{place}");
+    }
+}
+
+// The same, its fifth vector: the nonce's last byte but eleven zeros is 2.
+#[test]
+fn a_stream_is_the_nonce_of_rfc_8439(rt: HostRuntime) {
+    let mut words = ChaChaWords::new([0; 32], 0x0200_0000_0000_0000);
+    for word in [0x374d_c6c2, 0x3736_d58c, 0xb904_e24a, 0xcd3f_93ef] {
+        assert_eq!(rt; words.next_word(), word);
+    }
+}
+
+#[test]
+fn a_file_is_read_and_a_missing_one_fails(rt: HostRuntime) -> Result<(), Fail> {
+    let mut buf = [0u8; 5];
+    fs::write(&rt, "input.txt", "seven bytes and more")?;
+    let mut file = FileSource::open(&rt, "input.txt");
+    assert_eq!(rt; file.read(&mut buf), Ok(5));
+    assert_eq!(rt; buf, *b"seven");
+    assert_eq!(rt; file.read_faults(), 0);
+    fs::remove_file(&rt, "input.txt")?;
+    let mut missing = FileSource::open(&rt, "input.txt");
+    assert_eq!(rt; missing.read(&mut buf), Err(Failed));
+    assert_eq!(rt; missing.read_faults(), 1);
+    Ok(())
+}
+
+#[derive(Drop)]
+struct Broken;
+
+impl Read for Broken {
+    fn read(&mut self, _buf: &mut [u8]) -> io::Result<usize> {
+        Err(io::Error::from(io::ErrorKind::Other))
+    }
+}
+
+impl SystemTime for Broken {
+    fn monotonic(&self) -> io::Result<Duration> {
+        Err(io::Error::from(io::ErrorKind::Other))
+    }
+
+    fn since_1970(&self) -> io::Result<Duration> {
+        Err(io::Error::from(io::ErrorKind::Other))
+    }
+}
+
+#[test]
+fn standard_streams_count_their_faults(rt: HostRuntime) {
+    let mut input = StdSource::new(Broken);
+    assert_eq!(rt; input.read(&mut [0u8; 5]), Err(Failed));
+    assert_eq!(rt; input.read_faults(), 1);
+    let mut output = StdSink::new(&rt);
+    assert_eq!(rt; output.write(b""), Ok(0));
+    assert_eq!(rt; output.write_faults(), 0);
+}
+
+#[test]
+fn a_clock_that_is_broken_reads_0(rt: HostRuntime) {
+    assert_eq!(rt; SystemClock::new(Broken).now(), 0);
+    let now = SystemClock::new(&rt).now();
+    assert_eq!(rt; moment_of(now), now);
+}
