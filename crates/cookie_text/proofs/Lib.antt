@@ -1,0 +1,2 @@
+pub mod CookieHeaderLemmas
+pub mod FixedDateLemmas

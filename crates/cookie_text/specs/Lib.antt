@@ -1,0 +1,3 @@
+pub mod CookieHeader
+pub mod FixedDate
+pub mod SetCookie

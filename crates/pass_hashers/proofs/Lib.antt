@@ -1,0 +1,4 @@
+pub mod LastPartLemmas
+pub mod LetterLemmas
+pub mod ReadingLemmas
+pub mod TextLemmas

@@ -1,0 +1,6 @@
+use Rattle.std.proofs.Common.{arith}
+use Rattle.std.proofs.lemmas.Str.Pattern.{strip_prefix_char}
+use Rattle.pass_hashers.proofs.password_text.behind_mark.Goals as goal
+
+pub returns : goal.returns
+returns c = strip_prefix_char 33 c.args.text.now _ c.strip_prefix.ensures.cases (omega arith)

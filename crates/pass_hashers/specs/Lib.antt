@@ -1,0 +1,4 @@
+pub mod Laws
+pub mod PasswordText
+pub mod Reading
+pub mod Weakness

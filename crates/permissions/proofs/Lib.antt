@@ -1,0 +1,2 @@
+pub mod PermissionSetLemmas
+pub mod OrderLemmas

@@ -1,0 +1,2 @@
+pub mod PermissionSet
+pub mod Laws
