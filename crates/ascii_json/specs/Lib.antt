@@ -1,0 +1,5 @@
+pub mod AsciiJson
+pub mod Escaping
+pub mod Laws
+pub mod Profile
+pub mod Representable

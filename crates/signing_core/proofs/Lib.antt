@@ -1,0 +1,5 @@
+pub mod ColonLemmas
+pub mod KeysLemmas
+pub mod SignatureLemmas
+pub mod SignedJsonLemmas
+pub mod TimedTextLemmas

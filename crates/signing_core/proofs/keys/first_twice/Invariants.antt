@@ -1,0 +1,6 @@
+use Rattle.std.proofs.Common.{◌∷◌, take}
+use Rattle.signing_core.specs.Keys.{AreDifferent}
+use Rattle.signing_core.proofs.keys.first_twice.Given as goal
+
+abbrev pub invariant-loop-i : goal.invariant-loop-i
+invariant-loop-i l = AreDifferent (l.first ∷ take l.i l.fallbacks)

@@ -1,0 +1,34 @@
+//! Signed texts, as Django 4.2's `django.core.signing` makes and reads them.
+//!
+//! A signature shows that a text was written by someone who has a key; it hides nothing. Make a
+//! `Keys` first: the key that signs, and behind it the fallbacks whose signatures are still read.
+//! To change keys, take `rotated` and, once no text of the old keys is wanted any more, `retired`.
+//!
+//! - `Signer` signs a text for one use, which its salt names. `sign` and `unsign` know no time;
+//!   `sign_timed` and `unsign_timed` sign a moment with it, so that old texts can be refused.
+//! - `dumps` and `loads` sign a JSON value, and `sign_cookie` and `unsign_cookie` the value of a
+//!   cookie for its name.
+//! - `is_profile`, `json_ascii` and `json_read` are those of `ascii_json`: the values that can be
+//!   signed have no float and are nested at most 100 deep.
+//!
+//! Moments and ages are in seconds. What reads answers exactly where the definition holds:
+//! `Signature.IsSigned` and `IsTimestamped`, `SignedJson.IsDumped`, `TimedText.IsCurrent`. The laws
+//! say that a signed text has one value, and that what was written is read while its key is listed.
+#![tactic(auto)]
+
+mod colon;
+mod keys;
+pub mod laws;
+mod signature;
+mod signed_cookie;
+mod signed_json;
+mod signer;
+#[cfg(test)]
+mod tests;
+mod timed_text;
+
+pub use crate::keys::{Keys, KeysFault, RotateFault};
+pub use crate::signed_cookie::{CookieFault, sign_cookie, unsign_cookie};
+pub use crate::signed_json::{LoadFault, dumps, loads};
+pub use crate::signer::{SignFault, Signer, TimedFault};
+pub use ascii_json::{JsonFault, is_profile, json_ascii, json_read};
