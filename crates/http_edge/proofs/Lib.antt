@@ -1,0 +1,6 @@
+pub mod Answering
+pub mod Bounds
+pub mod Reading
+pub mod RequestLine
+pub mod Settled
+pub mod Texts
