@@ -1,0 +1,15 @@
+-- The exit status of the program, this project's own.
+use Rattle.std.specs.Prelude.{ℕ}
+use Rattle.auth_server.specs.declared.status.Status.{Status}
+use Rattle.auth_server.specs.declared.status.Status.TheVariants.{BadSettings, Done, Full, KeeperFault, Memory, ReadFault, Usage, WriteFault}
+
+-- by how a run ends
+abbrev pub exit_status : Status → ℕ
+exit_status Done = 0
+exit_status Usage = 2
+exit_status BadSettings = 3
+exit_status ReadFault = 4
+exit_status WriteFault = 5
+exit_status KeeperFault = 6
+exit_status Memory = 7
+exit_status Full = 10

@@ -1,0 +1,9 @@
+//! Laws about the definitions of this crate. A law is a function that does nothing: its clause is
+//! the law, so the check of the crate proves it.
+
+ghost use Rattle.ledger_rows.specs.Laws.{LegalHistoryGrows};
+
+/// A legal history grows by one operation at a time.
+pub fn legal_history_grows()
+    ensures { LegalHistoryGrows }
+{}
