@@ -1,0 +1,4 @@
+pub mod MomentLemmas
+pub mod ResetTextLemmas
+pub mod ResetTokenLemmas
+pub mod UserIdTextLemmas

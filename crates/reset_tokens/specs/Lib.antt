@@ -1,0 +1,5 @@
+pub mod Cut
+pub mod Laws
+pub mod Moment
+pub mod ResetToken
+pub mod UserIdText

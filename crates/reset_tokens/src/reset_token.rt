@@ -1,0 +1,170 @@
+//! Making and checking reset tokens.
+
+ghost use Rattle.std.specs.Prelude.{◌≡◌, ◌↔◌, ℕ, ◌∷◌, ◌++◌, Contains, IfOk, IfSome, IsAscii, IsErrOf, IsOk, IsTrue, MatchOption, OnOk, string_bytes};
+ghost use Rattle.crypto_text.specs.Numeral.{base36_digits, numeral_of};
+ghost use Rattle.signing_core.specs.Keys.{key_at};
+ghost use Rattle.reset_tokens.specs.Cut.{IsCut};
+ghost use Rattle.reset_tokens.specs.Moment.{IsMoment};
+ghost use Rattle.reset_tokens.specs.ResetToken.{HasNumber, HasShape, IsExpired, IsMade, IsMismatch, IsValid, dash, every_second, mac_of_text, number_at, row_of, token_text};
+
+use crate::reset_text::{ResetUser, reset_text};
+use crypto_text::{Text, b36_decode, b36_encode, hex_of, salted_hmac, same};
+use signing_core::Keys;
+use std::alloc::{AllocError, Global};
+use std::str;
+
+const SECONDS_TO_2001: u64 = 978_307_200;
+
+const MOST_AGE: u64 = 259_200;
+
+/// Why a token is not taken.
+#[derive(Clone, Copy, Debug, PartialEq, Eq)]
+pub enum ResetFault {
+    /// It isn't a base 36 number of at most 13 digits, below 2^64, and one other part, with a `-`
+    /// between and no other one.
+    Shape,
+    /// No listed key makes this token for the user at its number.
+    Mismatch,
+    /// It was made for the user more than 259,200 seconds ago. The age is in seconds.
+    Expired { age: u64 },
+    Memory,
+}
+
+/// A token for a user at a moment, under the first key.
+pub fn make_token(
+    alloc: Global,
+    user: &ResetUser<'_>,
+    keys: &Keys,
+    now: u64,
+) -> Result<Text, AllocError>
+    requires now { IsMoment now }
+    requires last_login { IfSome user.now.last_login IsMoment }
+    ensures { IfOk result (λ token. token ≡ token_text (row_of user.now) (number_at now) (key_at keys.now 0)) }
+{
+    let number = now - SECONDS_TO_2001;
+    let text = reset_text(alloc, user, number)?;
+    token_of(alloc, number, text.as_str(), keys.first())
+}
+
+/// Whether a token is valid for a user at a moment, as Django's `check_token`. Refusals come in the
+/// order of the enum, and memory is asked for behind `Shape`. A number whose moment is still to come
+/// has the age 0.
+pub fn check_token(
+    alloc: Global,
+    user: &ResetUser<'_>,
+    keys: &Keys,
+    token: &str,
+    now: u64,
+) -> Result<(), ResetFault>
+    requires now { IsMoment now }
+    requires last_login { IfSome user.now.last_login IsMoment }
+    ensures ok { (¬ IsErrOf result ResetFault.Memory) → (IsOk result ↔ IsValid token.now (row_of user.now) keys.now now) }
+    ensures shape { IsErrOf result ResetFault.Shape ↔ (¬ HasShape token.now) }
+    ensures mismatch { (¬ IsErrOf result ResetFault.Memory) → (IsErrOf result ResetFault.Mismatch ↔ IsMismatch token.now (row_of user.now) keys.now) }
+    ensures expired { (¬ IsErrOf result ResetFault.Memory) → (age : ℕ)
+        → (IsErrOf result (ResetFault.Expired age) ↔ IsExpired token.now (row_of user.now) keys.now now age) }
+{
+    let Some(number) = number_of(token) else {
+        return Err(ResetFault::Shape);
+    };
+    let Ok(made) = is_made(alloc, user, keys, token, number) else {
+        return Err(ResetFault::Memory);
+    };
+    if !made {
+        return Err(ResetFault::Mismatch);
+    }
+    let age = (now - SECONDS_TO_2001).saturating_sub(number);
+    if age > MOST_AGE {
+        return Err(ResetFault::Expired { age });
+    }
+    Ok(())
+}
+
+fn number_of(token: &str) -> Option<u64>
+    ensures { MatchOption result (¬ HasShape token.now) (HasNumber token.now) }
+{
+    let (digits, mark) = cut(token)?;
+    if mark.contains('-') {
+        return None;
+    }
+    b36_decode(digits)
+}
+
+// Both sides of the first `-`.
+fn cut(token: &str) -> Option<(&str, &str)>
+    ensures { MatchOption result (¬ Contains token.now dash) (λ parts. IsCut token.now parts.0.now parts.1.now) }
+{
+    token.split_once('-')
+}
+
+// Whether a listed key makes the token for the user at the number.
+fn is_made(
+    alloc: Global,
+    user: &ResetUser<'_>,
+    keys: &Keys,
+    token: &str,
+    number: u64,
+) -> Result<bool, AllocError>
+    requires { IfSome user.now.last_login IsMoment }
+    ensures { IfOk result (λ made. IsTrue made ↔ IsMade token.now (row_of user.now) number keys.now) }
+{
+    let text = reset_text(alloc, user, number)?;
+    for at in 0..keys.len() {
+        if is_token_of(alloc, number, text.as_str(), keys.key(at), token)? {
+            return Ok(true);
+        }
+    }
+    Ok(false)
+}
+
+fn is_token_of(
+    alloc: Global,
+    number: u64,
+    text: &str,
+    key: &[u8],
+    token: &str,
+) -> Result<bool, AllocError>
+    ensures { IfOk result (λ is. IsTrue is ↔ (token.now ≡ numeral_of base36_digits number ++ dash ∷ mac_of_text text.now key.now)) }
+{
+    let made = token_of(alloc, number, text, key)?;
+    Ok(same(token.as_bytes(), made.as_str().as_bytes()))
+}
+
+fn token_of(alloc: Global, number: u64, text: &str, key: &[u8]) -> Result<Text, AllocError>
+    ensures { IfOk result (λ token. token ≡ numeral_of base36_digits number ++ dash ∷ mac_of_text text.now key.now) }
+{
+    let mut token = b36_encode(alloc, number)?.into_string();
+    token.push('-')?;
+    push_digits(&mut token, &mac_of(text, key))?;
+    Ok(Text::from_string(token))
+}
+
+fn push_digits(text: &mut String, digits: &[u8; 32]) -> Result<(), AllocError>
+    requires { IsAscii digits.now }
+    ensures { OnOk result (string_bytes text.new ≡ string_bytes text.old ++ digits.now) }
+{
+    match str::from_utf8(digits) {
+        Ok(digits) => text.push_str(digits),
+        Err(_) => unreachable!(),
+    }
+}
+
+#[tactic(auto, unfolding(crate::specs::ResetToken::reset_salt))]
+fn mac_of(text: &str, key: &[u8]) -> [u8; 32]
+    ensures value { result ≡ mac_of_text text.now key.now }
+    ensures ascii { IsAscii result }
+{
+    let salt = b"django.contrib.auth.tokens.PasswordResetTokenGenerator";
+    every_second(&hex_of(&salted_hmac(salt, text.as_bytes(), key)))
+}
+
+// As Python's `[::2]`.
+fn every_second(digits: &[u8; 64]) -> [u8; 32]
+    ensures { result ≡ every_second digits.now }
+{
+    let mut chosen = [0; 32];
+    for place in 0..32 {
+        chosen[place] = digits[2 * place];
+    }
+    chosen
+}

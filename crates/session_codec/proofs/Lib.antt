@@ -1,0 +1,4 @@
+pub mod AuthLemmas
+pub mod DecodedLemmas
+pub mod DecodingLemmas
+pub mod MembersLemmas

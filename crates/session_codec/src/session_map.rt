@@ -1,0 +1,142 @@
+//! The map that a session is.
+
+ghost use Rattle.std.specs.Prelude.{◌≡◌, ◌↔◌, IfOk, IsTrue, MatchOption, None, OnErr, OnOk, Some, option_map};
+ghost use Rattle.serde_json.specs.Data.{no_members, object, put};
+ghost use Rattle.serde_json.specs.Find.{as_object, get_member};
+ghost use Rattle.serde_json.specs.View.{view};
+ghost use Rattle.ascii_json.specs.Profile.{FitsWithin, IsProfile};
+ghost use Rattle.ascii_json.specs.Representable.{IsRepresentable};
+ghost use Rattle.session_codec.specs.SessionMap.{IsSession, IsSessionValue, without};
+
+use crate::nesting::nests_within;
+use crate::object::{has_no_members, put_member, take_member};
+use serde_json::{Map, Value};
+use signing_core::is_profile;
+use std::alloc::{AllocError, Global};
+use std::marker::Model;
+
+const MOST_NESTED: usize = 99;
+
+/// JSON values under names, seen as the members of an object: names in byte order, each once. No value
+/// has a float or is nested more than 99 deep.
+#[derive(Debug, Drop)]
+pub struct SessionMap {
+    members: Value,
+}
+
+impl Model for SessionMap {
+    ghost use Rattle.serde_json.specs.Data.{Members};
+    ghost use Rattle.session_codec.specs.MembersCode.{members_code};
+
+    ghost Value = { Members };
+
+    ghost coded = { members_code };
+
+    ghost use Rattle.serde_json.specs.View.{view as data_of};
+    ghost use Rattle.session_codec.specs.Held.{IsHeld, members_held};
+
+    ghost view = { λ s. members_held (data_of s.members) };
+
+    ghost invariant = { λ s. IsHeld (data_of s.members) };
+}
+
+/// Whether a session can hold a value: no float, and nested at most 99 deep.
+pub fn is_session_value(value: &Value) -> bool
+    ensures value { IsTrue result ↔ IsSessionValue (view value.now) }
+    ensures fits { IsTrue result ↔ FitsWithin 99 (view value.now) }
+{
+    nests_within(value, MOST_NESTED) && is_profile(value)
+}
+
+impl SessionMap {
+    /// A map without names. Takes no memory.
+    pub fn new(alloc: Global) -> SessionMap
+        ensures { result ≡ no_members }
+    {
+        SessionMap {
+            members: Value::Object(Map::new(alloc)),
+        }
+    }
+
+    /// The map of an object, if the value is one.
+    pub(crate) fn of_value(value: Value) -> Option<SessionMap>
+        requires profile { IsProfile (view value) }
+        requires representable { IsRepresentable (view value) }
+        ensures { MatchOption result (as_object (view value) ≡ None) (λ map. as_object (view value) ≡ Some map) }
+    {
+        if value.is_object() {
+            Some(SessionMap { members: value })
+        } else {
+            None
+        }
+    }
+
+    /// Another map with the same values.
+    pub fn copy(&self, _alloc: Global) -> Result<SessionMap, AllocError>
+        ensures { IfOk result (λ copy. copy ≡ self.now) }
+    {
+        // Values know by themselves where their memory is from.
+        Ok(SessionMap {
+            members: self.members.clone()?,
+        })
+    }
+
+    /// The value under a name.
+    pub fn get(&self, key: &str) -> Option<&Value>
+        ensures { option_map (λ value. view value.now) result ≡ get_member key.now self.now }
+    {
+        self.members.get(key)
+    }
+
+    /// Puts a value under a name, in place of the one that was there. `is_session_value` tells which
+    /// values can be put. Want of memory changes nothing.
+    pub fn set(&mut self, alloc: Global, key: &str, value: Value) -> Result<(), AllocError>
+        requires { IsSessionValue (view value) }
+        ensures ok { OnOk result (self.new ≡ put key.now (view value) self.old) }
+        ensures err { OnErr result (self.new ≡ self.old) }
+    {
+        let name = String::from_str(alloc, key)?;
+        match self.members.as_object_mut() {
+            Some(members) => put_member(members, name, value),
+            None => unreachable!(),
+        }
+    }
+
+    /// Takes a name and its value away, if it is there.
+    pub fn remove(&mut self, key: &str)
+        ensures { self.new ≡ without key.now self.old }
+    {
+        match self.members.as_object_mut() {
+            Some(members) => take_member(members, key),
+            None => unreachable!(),
+        }
+    }
+
+    /// Takes all names away.
+    pub fn clear(&mut self)
+        ensures { self.new ≡ no_members }
+    {
+        match self.members.as_object_mut() {
+            Some(members) => members.clear(),
+            None => unreachable!(),
+        }
+    }
+
+    /// Whether there is no name.
+    pub fn is_empty(&self) -> bool
+        ensures { IsTrue result ↔ (self.now ≡ no_members) }
+    {
+        match &self.members {
+            Value::Object(members) => has_no_members(members),
+            _ => unreachable!(),
+        }
+    }
+
+    /// The members as a JSON value, to be written.
+    pub(crate) fn as_value(&self) -> &Value
+        ensures value { view result.now ≡ object self.now }
+        ensures session { IsSession self.now }
+    {
+        &self.members
+    }
+}
