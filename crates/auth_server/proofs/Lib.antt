@@ -1,5 +1,4 @@
-pub mod ReportLemmas
-pub mod WhoamiRequestLemmas
 pub mod MemoryText
-pub mod OneWorkerLemmas
-pub mod SiteFileLemmas
+pub mod TranscriptLemmas
+pub mod SettingsLemmas
+pub mod CommandLemmas

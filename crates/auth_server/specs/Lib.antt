@@ -1,13 +1,9 @@
 -- What the public contracts of this program cite.
+pub mod Command
 pub mod ExitStatus
-pub mod Keeper
-pub mod Ledger
-pub mod Start
-pub mod StartFault
+pub mod Handler
 pub mod ManageSite
-pub mod MemoryKeeper
 pub mod OneWorker
 pub mod Page
 pub mod Sending
-pub mod SiteFile
-pub mod WhoamiRequest
+pub mod Transcript

@@ -1,99 +1,98 @@
--- What one run does with its devices and its store, for one worker and one request. This project's own.
-use Rattle.std.specs.Prelude.{◌≡◌, ◌≢◌, ◌≤◌, ◌^◌, ◌⊎◌, ℕ, List, [], ◌∷◌, take, Option, None, IfSome, Result, Ok, Err, IfOk, OnErr, IsErrOf}
+-- What one worker does with its devices and its store, for one request. This project's own.
+use Rattle.std.specs.Prelude.{◌≡◌, ◌≤◌, ◌+◌, ◌^◌, ◌⊎◌, ◌↔◌, ℕ, Bool, List, [], ◌∷◌, Option, Some, None, is_some, Result, IfOk, OnOk, OnErr, IsErrOf}
 use Rattle.outside.specs.Faults.{Rose}
 use Rattle.outside.specs.Clock.{GivesNext, moment}
 use Rattle.outside.specs.RandomWords.{place_after}
-use Rattle.http_edge.specs.ResponseText.{response_text}
+use Rattle.http_edge.specs.declared.request.Request.{Request}
+use Rattle.http_edge.specs.declared.response.Response.{Response}
 use Rattle.ledger_rows.specs.Step.{reply_to}
 use Rattle.ledger_rows.specs.declared.entry.Entry.{Entry}
 use Rattle.ledger_rows.specs.declared.operation.Op.TheVariants.{Load}
 use Rattle.ledger_rows.specs.declared.reply.Reply.{Reply}
 use Rattle.ledger_rows.specs.declared.rows.Cfg.{Cfg}
-use Rattle.auth_server.specs.Keeper.{OnHolding, Report}
-use Rattle.auth_server.specs.Ledger.{stepped}
-use Rattle.auth_server.specs.Page.{bad_head_page, page_of, refused_page}
-use Rattle.auth_server.specs.Sending.{IsSent}
-use Rattle.auth_server.specs.WhoamiRequest.{IsWhoamiRequest}
-use Rattle.auth_server.specs.declared.ledger.StepFault.{StepFault}
-use Rattle.auth_server.specs.declared.ledger.StepFault.TheVariants.{Keeper, Full, Memory as NoMemory}
-use Rattle.auth_server.specs.declared.status.Status.{Status}
-use Rattle.auth_server.specs.declared.status.Status.TheVariants.{Done, ReadFault, Memory}
+use Rattle.auth_server.specs.Handler.{begun_of}
+use Rattle.keepers.specs.Keeper.{OnHolding, Report}
+use Rattle.session_engines.specs.Ledger.{stepped}
+use Rattle.auth_server.specs.Page.{is_head, page_of}
+use Rattle.auth_server.specs.declared.handler.Begun.{Begun}
+use Rattle.auth_server.specs.declared.handler.Begun.TheVariants.{Answer, Asks}
+use Rattle.session_engines.specs.declared.ledger.StepFault.{StepFault}
+use Rattle.session_engines.specs.declared.ledger.StepFault.TheVariants.{Keeper, Full}
 
--- what the devices and the store report, at one time
-pub record Seen : Type 0 where
-  -- the bytes that the input has left, where it tells
-  pub input : Option (List ℕ)
-  -- the bytes that were written, where the output tells
-  pub output : Option (List ℕ)
+-- what the input reports: the bytes that it has left, where it tells, and its count of faults
+pub record Input : Type 0 where
+  pub left : Option (List ℕ)
+  pub faults : ℕ
+
+-- what the output reports: the bytes that were written, where it tells, and its count of faults
+pub record Output : Type 0 where
+  pub written : Option (List ℕ)
+  pub faults : ℕ
+
+-- what the store reports: what it holds, how many entries its audit list has, and its count of faults
+pub record Store : Type 0 where
+  pub report : Report
+  pub entry_count : ℕ
+  pub faults : ℕ
+
+-- what clock, words and store report
+pub record Inside : Type 0 where
   -- the clock's readings to come, where it tells
   pub readings : Option (ℕ → ℕ)
   -- the place of the next random word
   pub place : ℕ
-  pub report : Report
-  -- how many entries the audit list has
-  pub entry_count : ℕ
-  -- the counts of faults
-  pub input_faults : ℕ
-  pub output_faults : ℕ
-  pub store_faults : ℕ
+  pub store : Store
 
--- what is written for want of memory
-abbrev pub memory_text : List ℕ
-memory_text = response_text (refused_page NoMemory)
+-- what the devices and the store report, at one time
+pub record Seen : Type 0 where
+  pub input : Input
+  pub output : Output
+  pub inside : Inside
 
--- this was written whole and the run ends so, or a proper part of it since the output failed; or the same of
--- the response for want of memory, which may come at any time
-abbrev pub IsAnswer : List ℕ → Status → Seen → Seen → Status → Type 0
-IsAnswer due end before after status =
-    IsSent before.output after.output before.output_faults after.output_faults due end status
-    ⊎ IsSent before.output after.output before.output_faults after.output_faults memory_text Memory status
+-- who serves: the site's configuration and hosts, the number of the start and that of the worker
+pub record Server : Type 0 where
+  pub cfg : Cfg
+  pub hosts : List (List ℕ)
+  pub boot : ℕ
+  pub worker : ℕ
 
--- how a run ends, once the request's response is written
-abbrev pub end_of : Result Reply StepFault → Status
-end_of (Ok reply) = Done
-end_of (Err (Keeper before after)) = Done
-end_of (Err Full) = Done
-end_of (Err NoMemory) = Memory
+-- the entry of the load of a request
+abbrev pub load_entry : Server → ℕ → Option (List ℕ) → ℕ → Entry
+load_entry server number cookie now = record { tag = record { boot = server.boot; worker = server.worker; request = number; step = 0 }; op = Load cookie now }
 
--- the entry of the load of the first worker's first request
-abbrev pub load_entry : ℕ → ℕ → Entry
-load_entry boot now = record { tag = record { boot = boot; worker = 1; request = 1; step = 0 }; op = Load None (moment now) }
+-- the store wasn't asked
+pub record IsUnasked (before after : Store) : Type 0 where
+  pub report : after.report ≡ before.report
+  pub entry_count : after.entry_count ≡ before.entry_count
 
--- one clock reading and the words of one request were taken, and one load was done: its reply is the one that
--- the definition gives of the tables that it found, and its entry stands in the list; or it was refused, and
--- nothing changed
-pub record IsLoaded (cfg : Cfg) (boot : ℕ) (before after : Seen) (outcome : Result Reply StepFault) : Type 0 where
-  pub now : ℕ
-  pub clock : GivesNext before.readings after.readings (now ∷ [])
+-- one load was done: its reply is the one that the definition gives of the tables that it found, and its entry
+-- stands in the list; or it was refused, and nothing changed
+pub record IsLoaded (cfg : Cfg) (entry : Entry) (before after : Store) (outcome : Result Reply StepFault) : Type 0 where
+  pub reply : IfOk outcome (λ reply. OnHolding before.report (λ contents. reply ≡ reply_to cfg entry.op contents.tables))
+  pub entered : OnOk outcome (after.report ≡ stepped cfg.engine entry before.report)
+  pub longer : OnOk outcome (after.entry_count ≡ before.entry_count + 1)
+  pub refused : OnErr outcome (IsUnasked before after)
+  pub full : IsErrOf outcome Full ↔ (2 ^ 62 ≤ before.entry_count)
+  pub failed : (earlier later : ℕ) → IsErrOf outcome (Keeper earlier later) → Rose before.faults after.faults
+
+-- the answer is this page, or memory was wanting
+abbrev pub IsPage : Option Response → Option Response → Type 0
+IsPage page answer = (answer ≡ page) ⊎ (answer ≡ None)
+
+-- the answer to a request, by what came first of it: a refusal asks for no step, and else one load is done; memory
+-- may be wanting before it and after it
+abbrev pub IsAnswer : Server → ℕ → Bool → Bool → ℕ → Begun → Store → Store → Option Response → Type 0
+IsAnswer server number keep head_only now (Answer page) before after answer = IsUnasked before after × IsPage (Some page) answer
+IsAnswer server number keep head_only now (Asks cookie) before after answer =
+    (IsUnasked before after × (answer ≡ None))
+    ⊎ ((outcome : Result Reply StepFault) × IsLoaded server.cfg (load_entry server number cookie now) before after outcome
+    × IsPage (page_of (is_some cookie) keep head_only outcome) answer)
+
+-- one request was answered, or memory was wanting for its answer: one reading of the clock and the words of one
+-- request were taken, and the answer is the one of the request and of its load
+pub record IsExchange (server : Server) (number : ℕ) (keep : Bool) (r : Request) (before after : Inside) (now : ℕ) (answer : Option Response) : Type 0 where
+  pub reading : ℕ
+  pub moment_is : now ≡ moment reading
+  pub clock : GivesNext before.readings after.readings (reading ∷ [])
   pub words : after.place ≡ place_after before.place 1024
-  pub reply : IfOk outcome (λ reply. OnHolding before.report (λ contents. reply ≡ reply_to cfg (load_entry boot now).op contents.tables))
-  pub entered : IfOk outcome (λ reply. after.report ≡ stepped cfg.engine (load_entry boot now) before.report)
-  pub refused : OnErr outcome (after.report ≡ before.report)
-  pub full : IsErrOf outcome Full → 2 ^ 62 ≤ before.entry_count
-  pub failed : (earlier later : ℕ) → IsErrOf outcome (Keeper earlier later) → Rose before.store_faults after.store_faults
-
--- neither clock, words nor store were asked
-pub record IsNotAsked (before after : Seen) : Type 0 where
-  pub clock : after.readings ≡ before.readings
-  pub words : after.place ≡ before.place
-  pub store : after.report ≡ before.report
-
--- the input couldn't be read, and nothing was written
-pub record IsUnread (before after : Seen) (status : Status) : Type 0 where
-  pub cause : ((status ≡ ReadFault) × Rose before.input_faults after.input_faults) ⊎ (status ≡ Memory)
-  pub output : after.output ≡ before.output
-  pub not_asked : IsNotAsked before after
-
--- the input was read, to its end or to 16,385 bytes, and answered: an empty one by nothing, one that is no
--- request by 400, and a request by the page of its load
-pub record IsServed (cfg : Cfg) (boot : ℕ) (before after : Seen) (status : Status) : Type 0 where
-  pub bytes : List ℕ
-  pub outcome : Result Reply StepFault
-  pub taken : IfSome before.input (λ left. bytes ≡ take 16385 left)
-  pub empty : bytes ≡ [] → IsAnswer [] Done before after status × IsNotAsked before after
-  pub bad_head : bytes ≢ [] → ¬ IsWhoamiRequest bytes → IsAnswer (response_text bad_head_page) Done before after status × IsNotAsked before after
-  pub answered : IsWhoamiRequest bytes → IsAnswer (response_text (page_of outcome)) (end_of outcome) before after status × IsLoaded cfg boot before after outcome
-
--- a connection of one request
-abbrev pub Serves : Cfg → ℕ → Seen → Seen → Status → Type 0
-Serves cfg boot before after status = IsUnread before after status ⊎ IsServed cfg boot before after status
+  pub answered : IsAnswer server number keep (is_head r.method) now (begun_of server.hosts keep r) before.store after.store answer

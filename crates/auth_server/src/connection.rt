@@ -1,130 +1,194 @@
-//! A connection: one request so far.
+//! A whole connection: one request after another is read and answered.
 
-ghost use Rattle.std.specs.Prelude.{◌≡◌, ◌≢◌, ◌≤◌, ◌<◌, ◌^◌, ◌+◌, ◌↔◌, ◌⊎◌, ℕ, [], ◌∷◌, None, IfOk, IsErrOf, OnErr, OnOk};
+ghost use Rattle.std.specs.Prelude.{◌≡◌, ◌≤◌, ◌<◌, ◌^◌, ◌+◌, ◌++◌, ℕ, List, [], Some, None, IfOk, vec_len, vec_capacity, length};
 ghost use Rattle.outside.specs.Faults.{Rose};
-ghost use Rattle.outside.specs.Clock.{GivesNext};
-ghost use Rattle.outside.specs.RandomWords.{place_after};
-ghost use Rattle.http_edge.specs.ResponseText.{response_text};
-ghost use Rattle.ledger_rows.specs.Step.{reply_to};
-ghost use Rattle.auth_server.specs.Keeper.{OnHolding};
-ghost use Rattle.auth_server.specs.Ledger.{KeepsHistory, stepped};
-ghost use Rattle.auth_server.specs.Page.{bad_head_page, page_of, refused_page};
-ghost use Rattle.auth_server.specs.Sending.{IsSent};
-ghost use Rattle.auth_server.specs.OneWorker.{IsLoaded, Seen, Serves, end_of, load_entry, memory_text};
+ghost use Rattle.http_edge.specs.ResponseText.{IsStatus};
+ghost use Rattle.session_engines.specs.Ledger.{KeepsHistory};
+ghost use Rattle.auth_server.specs.OneWorker.{Input, Inside, Output, Seen, Server, Store};
+ghost use Rattle.auth_server.specs.Page.{fault_page};
+ghost use Rattle.auth_server.specs.Transcript.{IsRound, IsSaid, Serves, moments_of};
 
-use crate::keeper::Keeper;
-use crate::ledger::{Ledger, StepFault};
-use crate::output::send;
-use crate::page::{MEMORY_RESPONSE, bad_head_text, outcome_text};
-use crate::status::Status;
-use crate::whoami_request::is_whoami_request;
-use crypto_text::Bytes;
-use ledger_rows::{Op, Reply, Tag};
-use outside::{Clock, InputFault, Sink, Source, Words, draw_request, moment_of, read_up_to};
+use crate::exchange::{Exchange, Place, serve_request};
+use crate::output::say;
+use crate::page::fault_page;
+use crypto_text::{Ids, TextList};
+use http_edge::{EdgeFault, Reader, read_request};
+use keepers::Keeper;
+use outside::{Clock, Sink, Source, Words};
+use session_engines::Ledger;
 use std::alloc::{AllocError, Global};
 
-/// A head has at most 16,384 bytes; one more shows that it has too many.
-const MOST_INPUT: usize = 16_385;
+/// The response to the last of them says that the connection is closed.
+const MOST_REQUESTS: u64 = 1000;
 
-/// Reads one request, does its load and writes its response.
-pub fn serve_one<K: Keeper, I: Source, O: Sink, C: Clock, W: Words>(
+/// How a connection ends.
+#[derive(Clone, Copy, Debug, PartialEq, Eq)]
+pub enum End {
+    /// The input ended, or the last response said so.
+    Closed,
+    ReadFault,
+    WriteFault,
+    Memory,
+}
+
+/// What became of a connection.
+#[derive(Debug, Drop)]
+pub struct Report {
+    pub end: End,
+    /// How many requests were read whole.
+    pub requests: u64,
+    /// Their moments, in seconds since 1970.
+    pub moments: Ids,
+}
+
+/// What became of one round of a connection: the moment of its request, where one was read whole, and how the
+/// connection ends with it, where it does.
+#[derive(Clone, Copy, Debug)]
+pub struct Round {
+    pub moment: Option<u64>,
+    pub end: Option<End>,
+}
+
+/// Serves one connection, at most 1,000 requests, as a worker whose next request has the number `first`. Neither
+/// input nor output is used again.
+pub fn serve_solo<K: Keeper, I: Source, O: Sink, C: Clock, W: Words>(
     alloc: Global,
     ledger: &mut Ledger<K>,
+    hosts: &TextList,
+    worker: u64,
+    first: u64,
     input: &mut I,
     output: &mut O,
     clock: &mut C,
     words: &mut W,
-) -> Status
-    ensures serves { let before : Seen = record { input = I.left input.old; output = O.written output.old; readings = C.readings clock.old; place = W.place words.old; report = K.report ledger.old.keeper; entry_count = K.entry_count ledger.old.keeper; input_faults = I.read_faults input.old; output_faults = O.write_faults output.old; store_faults = K.faults ledger.old.keeper } in
-        let after : Seen = record { input = I.left input.new; output = O.written output.new; readings = C.readings clock.new; place = W.place words.new; report = K.report ledger.new.keeper; entry_count = K.entry_count ledger.new.keeper; input_faults = I.read_faults input.new; output_faults = O.write_faults output.new; store_faults = K.faults ledger.new.keeper } in
-        Serves ledger.old.cfg ledger.old.boot before after result }
+) -> Report
+    requires { first ≤ 2 ^ 62 }
+    ensures serves { let before : Seen = record { input = record { left = I.left input.old; faults = I.read_faults input.old }; output = record { written = O.written output.old; faults = O.write_faults output.old }; inside = record { readings = C.readings clock.old; place = W.place words.old; store = record { report = K.report ledger.old.keeper; entry_count = K.entry_count ledger.old.keeper; faults = K.faults ledger.old.keeper } } } in
+        let after : Seen = record { input = record { left = I.left input.new; faults = I.read_faults input.new }; output = record { written = O.written output.new; faults = O.write_faults output.new }; inside = record { readings = C.readings clock.new; place = W.place words.new; store = record { report = K.report ledger.new.keeper; entry_count = K.entry_count ledger.new.keeper; faults = K.faults ledger.new.keeper } } } in
+        let server : Server = record { cfg = ledger.old.cfg; hosts = hosts.now; boot = ledger.old.boot; worker = worker } in
+        Serves server first before after result }
     ensures same { (ledger.new.cfg ≡ ledger.old.cfg) × (ledger.new.boot ≡ ledger.old.boot) }
     ensures history { KeepsHistory (K.report ledger.old.keeper) (K.report ledger.new.keeper) }
 {
-    let bytes = match read_up_to(alloc, input, MOST_INPUT) {
-        Ok(bytes) => bytes,
-        Err(InputFault::Failed) => return Status::ReadFault,
-        Err(InputFault::Memory) => return Status::Memory,
+    let (mut reader, mut moments) = match make_room(alloc) {
+        Ok(room) => room,
+        Err(AllocError) => return report_of(End::Memory, Vec::new(alloc)),
     };
-    if bytes.is_empty() {
-        return Status::Done;
+    for done in 0..MOST_REQUESTS {
+        let place = Place {
+            worker,
+            number: first + done,
+            more: done + 1 < MOST_REQUESTS,
+        };
+        let round = serve_next(
+            alloc,
+            ledger,
+            hosts,
+            place,
+            &mut reader,
+            input,
+            output,
+            clock,
+            words,
+        );
+        note(&mut moments, round.moment);
+        if let Some(end) = round.end {
+            return report_of(end, moments);
+        }
     }
-    if is_whoami_request(bytes.as_slice()) {
-        let outcome = load(alloc, ledger, clock, words);
-        respond(alloc, output, &outcome)
-    } else {
-        refuse(alloc, output)
+    report_of(End::Closed, moments)
+}
+
+// All the memory that a connection needs beside that of its requests.
+fn make_room(alloc: Global) -> Result<(Reader, Vec<u64>), AllocError>
+    ensures reader { IfOk result (λ room. room.0 ≡ []) }
+    ensures moments { IfOk result (λ room. room.1.items ≡ []) }
+    ensures capacity { IfOk result (λ room. vec_capacity room.1 ≡ 1000) }
+{
+    Ok((
+        Reader::new(alloc)?,
+        Vec::with_capacity(alloc, MOST_REQUESTS as usize)?,
+    ))
+}
+
+fn report_of(end: End, moments: Vec<u64>) -> Report
+    ensures end { result.end ≡ end }
+    ensures requests { result.requests ≡ length result.moments }
+    ensures moments { result.moments ≡ moments.items }
+{
+    Report {
+        end,
+        requests: moments.len() as u64,
+        moments: Ids::from_vec(moments),
     }
 }
 
-// The moment is taken and the words are drawn once a request is read, whether its answer needs them or not.
-fn load<K: Keeper, C: Clock, W: Words>(
+fn note(moments: &mut Vec<u64>, moment: Option<u64>)
+    requires { vec_len moments.old < vec_capacity moments.old }
+    ensures items { moments.new.items ≡ moments.old.items ++ moments_of moment }
+    ensures len { vec_len moments.new ≤ vec_len moments.old + 1 }
+    ensures capacity { vec_capacity moments.old ≤ vec_capacity moments.new }
+{
+    if let Some(moment) = moment {
+        match moments.push(moment) {
+            Ok(()) => {}
+            Err(_) => unreachable!(),
+        }
+    }
+}
+
+/// Reads the next request and answers it.
+fn serve_next<K: Keeper, I: Source, O: Sink, C: Clock, W: Words>(
     alloc: Global,
     ledger: &mut Ledger<K>,
+    hosts: &TextList,
+    place: Place,
+    reader: &mut Reader,
+    input: &mut I,
+    output: &mut O,
     clock: &mut C,
     words: &mut W,
-) -> Result<Reply, StepFault>
-    ensures reads { (now : ℕ) × GivesNext (C.readings clock.old) (C.readings clock.new) (now ∷ [])
-        × IfOk result (λ reply. OnHolding (K.report ledger.old.keeper) (λ contents. reply ≡ reply_to ledger.old.cfg (load_entry ledger.old.boot now).op contents.tables))
-        × OnOk result (K.report ledger.new.keeper ≡ stepped ledger.old.cfg.engine (load_entry ledger.old.boot now) (K.report ledger.old.keeper)) }
-    ensures words { W.place words.new ≡ place_after (W.place words.old) 1024 }
-    ensures err { OnErr result (K.report ledger.new.keeper ≡ K.report ledger.old.keeper) }
-    ensures full { IsErrOf result StepFault.Full → 2 ^ 62 ≤ K.entry_count ledger.old.keeper }
-    ensures failed { (earlier later : ℕ) → IsErrOf result (StepFault.Keeper earlier later) → Rose (K.faults ledger.old.keeper) (K.faults ledger.new.keeper) }
+) -> Round
+    ensures round { let before : Seen = record { input = record { left = I.left input.old; faults = I.read_faults input.old }; output = record { written = O.written output.old; faults = O.write_faults output.old }; inside = record { readings = C.readings clock.old; place = W.place words.old; store = record { report = K.report ledger.old.keeper; entry_count = K.entry_count ledger.old.keeper; faults = K.faults ledger.old.keeper } } } in
+        let after : Seen = record { input = record { left = I.left input.new; faults = I.read_faults input.new }; output = record { written = O.written output.new; faults = O.write_faults output.new }; inside = record { readings = C.readings clock.new; place = W.place words.new; store = record { report = K.report ledger.new.keeper; entry_count = K.entry_count ledger.new.keeper; faults = K.faults ledger.new.keeper } } } in
+        let server : Server = record { cfg = ledger.old.cfg; hosts = hosts.now; boot = ledger.old.boot; worker = place.worker } in
+        IsRound server place.number place.more reader.old before reader.new after result }
     ensures same { (ledger.new.cfg ≡ ledger.old.cfg) × (ledger.new.boot ≡ ledger.old.boot) }
     ensures history { KeepsHistory (K.report ledger.old.keeper) (K.report ledger.new.keeper) }
 {
-    let now = moment_of(clock.now());
-    let _drawn = draw_request(words);
-    let tag = Tag {
-        boot: ledger.boot,
-        worker: 1,
-        request: 1,
-        step: 0,
+    let request = match read_request(alloc, reader, input) {
+        Ok(Some(request)) => request,
+        Ok(None) => return over(End::Closed),
+        Err(EdgeFault::ReadFault) => return over(End::ReadFault),
+        Err(fault) => return refuse(alloc, output, fault),
     };
-    ledger.step(alloc, tag, &Op::Load { cookie: None, now })
-}
-
-fn respond<O: Sink>(alloc: Global, output: &mut O, outcome: &Result<Reply, StepFault>) -> Status
-    ensures answer { IsSent (O.written output.old) (O.written output.new) (O.write_faults output.old) (O.write_faults output.new) (response_text (page_of outcome.now)) (end_of outcome.now) result
-        ⊎ IsSent (O.written output.old) (O.written output.new) (O.write_faults output.old) (O.write_faults output.new) memory_text Status.Memory result }
-    ensures count { O.write_faults output.old ≤ O.write_faults output.new }
-{
-    match outcome_text(alloc, outcome) {
-        Ok(text) => send(output, text.items(), end_of(outcome)),
-        Err(AllocError) => send_memory(output),
+    let Exchange { moment, answer } = serve_request(
+        alloc, ledger, hosts, place, &request, clock, words,
+    );
+    Round {
+        moment: Some(moment),
+        end: say(alloc, output, answer.as_ref()),
     }
 }
 
-fn refuse<O: Sink>(alloc: Global, output: &mut O) -> Status
-    ensures answer { IsSent (O.written output.old) (O.written output.new) (O.write_faults output.old) (O.write_faults output.new) (response_text bad_head_page) Status.Done result
-        ⊎ IsSent (O.written output.old) (O.written output.new) (O.write_faults output.old) (O.write_faults output.new) memory_text Status.Memory result }
-    ensures count { O.write_faults output.old ≤ O.write_faults output.new }
+fn over(end: End) -> Round
+    ensures { result ≡ record { moment = None; end = Some end } }
 {
-    match bad_head_text(alloc) {
-        Ok(text) => send(output, text.items(), Status::Done),
-        Err(AllocError) => send_memory(output),
+    Round {
+        moment: None,
+        end: Some(end),
     }
 }
 
-fn memory_response() -> &'static [u8]
-    ensures { result.now ≡ memory_text }
+fn refuse<O: Sink>(alloc: Global, output: &mut O, fault: EdgeFault) -> Round
+    ensures said { let before : Output = record { written = O.written output.old; faults = O.write_faults output.old } in
+        let after : Output = record { written = O.written output.new; faults = O.write_faults output.new } in
+        IsSaid (fault_page fault) before after result.end }
+    ensures moment { result.moment ≡ None }
 {
-    MEMORY_RESPONSE
-}
-
-fn send_memory<O: Sink>(output: &mut O) -> Status
-    ensures sent { IsSent (O.written output.old) (O.written output.new) (O.write_faults output.old) (O.write_faults output.new) memory_text Status.Memory result }
-    ensures count { O.write_faults output.old ≤ O.write_faults output.new }
-{
-    send(output, memory_response(), Status::Memory)
-}
-
-fn end_of(outcome: &Result<Reply, StepFault>) -> Status
-    ensures { result ≡ end_of outcome.now }
-{
-    match outcome {
-        Err(StepFault::Memory) => Status::Memory,
-        _ => Status::Done,
+    let page = fault_page(alloc, fault).ok();
+    Round {
+        moment: None,
+        end: say(alloc, output, page.as_ref()),
     }
 }

@@ -1,26 +1,25 @@
-//! `auth_server SETTINGS STORE COMMAND`: a site's login server. `SETTINGS` is a settings file, `STORE` is `mem`,
-//! a store in memory, and `COMMAND` is `pipe`, which serves one request from standard input to standard output.
+//! `auth_server SETTINGS STORE COMMAND ..`: a site's login server. `SETTINGS` is a settings file and `STORE` is `mem`,
+//! a store in memory. The commands are `pipe`, which serves one connection from standard input to standard output,
+//! `sign SALT VALUE`, and `unsign SALT MAXAGE TEXT`.
 //! The top call is `manage_site::manage`; what stands above it here opens the files and streams.
 #![tactic(auto)]
 
-mod change;
+mod command;
 mod connection;
-mod keeper;
-mod ledger;
+mod exchange;
+mod handler;
 mod manage_site;
-mod memory_keeper;
 mod output;
 mod page;
-mod site_file;
+mod signing;
 mod status;
 #[cfg(test)]
 mod tests;
-mod whoami_request;
 
 use crate::manage_site::manage;
-use crate::memory_keeper::MemKeeper;
 use crate::status::Status;
 use crypto_text::{Ids, Text, TextList};
+use keepers::MemKeeper;
 use outside::{ChaChaWords, FileSource, StdSink, StdSource, SystemClock, read_up_to};
 use std::alloc::AllocError;
 use std::env;

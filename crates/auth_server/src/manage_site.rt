@@ -2,24 +2,29 @@
 
 ghost use Rattle.std.specs.Prelude.{◌≡◌, ◌≤◌, ◌⊎◌, ◌↔◌, ℕ, IfOk, IfSome, IsErrOf, IsTrue, string_bytes, take};
 ghost use Rattle.outside.specs.Faults.{Rose};
-ghost use Rattle.auth_server.specs.Ledger.{KeepsHistory};
-ghost use Rattle.auth_server.specs.ManageSite.{IsNotOpened, IsOpened, IsPipe, IsRefused, IsSettingsUnread, RunsSite, settings_line, usage_line};
+ghost use Rattle.session_engines.specs.Ledger.{KeepsHistory};
+ghost use Rattle.auth_server.specs.Command.{asked_by_command, asked_of};
+ghost use Rattle.auth_server.specs.ManageSite.{IsNotOpened, IsOpened, Runs, RunsCommand, settings_line};
 ghost use Rattle.auth_server.specs.OneWorker.{Seen};
 ghost use Rattle.auth_server.specs.Sending.{IsSent};
-ghost use Rattle.auth_server.specs.SiteFile.{IsSiteOf, Says, Site, Wrong};
+ghost use Rattle.site_file.specs.SiteFile.{IsSiteOf, Says, Wrong};
 
-use crate::connection::serve_one;
-use crate::keeper::Keeper;
-use crate::ledger::{Ledger, OpenFault};
+use crate::command::{Command, command_of};
+use crate::connection::serve_solo;
 use crate::output::send;
-use crate::site_file::{Settings, SettingsAll, SettingsFault, read_settings};
-use crate::status::Status;
+use crate::signing::{sign, unsign};
+use crate::status::{Status, status_of};
 use crypto_text::TextList;
+use keepers::Keeper;
 use outside::{Clock, InputFault, Sink, Source, Words, read_up_to};
+use session_engines::{Ledger, OpenFault};
+use site_file::{Settings, SettingsAll, SettingsFault, read_settings};
 use std::alloc::{AllocError, Global};
 
 /// One byte more than a settings file may have, to see that it has too many.
 const MOST_SETTINGS: usize = 4_194_305;
+
+const USAGE: &[u8] = b"usage\n";
 
 /// Why there is no site to run.
 #[derive(Clone, Copy, Debug, PartialEq, Eq)]
@@ -30,7 +35,8 @@ enum SiteFault {
 }
 
 /// Runs the command of the words `SETTINGS STORE COMMAND` and gives the keeper back. The settings are read
-/// from `settings`; `pipe` reads one request from `input` and writes its response to `output`.
+/// from `settings`; `pipe` serves one connection from `input` to `output`, as worker 1; `sign` and
+/// `unsign` write one line to `output` and leave the keeper alone.
 pub fn manage<S: Source, I: Source, O: Sink, K: Keeper, C: Clock, W: Words>(
     alloc: Global,
     words: &TextList,
@@ -41,39 +47,59 @@ pub fn manage<S: Source, I: Source, O: Sink, K: Keeper, C: Clock, W: Words>(
     clock: &mut C,
     draw: &mut W,
 ) -> (Status, K)
-    ensures usage { let before : Seen = record { input = I.left input.old; output = O.written output.old; readings = C.readings clock.old; place = W.place draw.old; report = K.report keeper; entry_count = K.entry_count keeper; input_faults = I.read_faults input.old; output_faults = O.write_faults output.old; store_faults = K.faults keeper } in
-        let after : Seen = record { input = I.left input.new; output = O.written output.new; readings = C.readings clock.new; place = W.place draw.new; report = K.report result.1; entry_count = K.entry_count result.1; input_faults = I.read_faults input.new; output_faults = O.write_faults output.new; store_faults = K.faults result.1 } in
-        ¬ IsPipe words.now → IsRefused usage_line Status.Usage before after result.0 }
-    ensures runs { let before : Seen = record { input = I.left input.old; output = O.written output.old; readings = C.readings clock.old; place = W.place draw.old; report = K.report keeper; entry_count = K.entry_count keeper; input_faults = I.read_faults input.old; output_faults = O.write_faults output.old; store_faults = K.faults keeper } in
-        let after : Seen = record { input = I.left input.new; output = O.written output.new; readings = C.readings clock.new; place = W.place draw.new; report = K.report result.1; entry_count = K.entry_count result.1; input_faults = I.read_faults input.new; output_faults = O.write_faults output.new; store_faults = K.faults result.1 } in
-        IsPipe words.now → IsSettingsUnread (S.read_faults settings.old) (S.read_faults settings.new) before after result.0
-        ⊎ ((site : Site) × IfSome (S.left settings.old) (λ left. IsSiteOf (take 4194305 left) site) × RunsSite site before after result.0) }
-    ensures unread { ¬ IsPipe words.now → S.left settings.new ≡ S.left settings.old }
+    ensures runs { let before : Seen = record { input = record { left = I.left input.old; faults = I.read_faults input.old }; output = record { written = O.written output.old; faults = O.write_faults output.old }; inside = record { readings = C.readings clock.old; place = W.place draw.old; store = record { report = K.report keeper; entry_count = K.entry_count keeper; faults = K.faults keeper } } } in
+        let after : Seen = record { input = record { left = I.left input.new; faults = I.read_faults input.new }; output = record { written = O.written output.new; faults = O.write_faults output.new }; inside = record { readings = C.readings clock.new; place = W.place draw.new; store = record { report = K.report result.1; entry_count = K.entry_count result.1; faults = K.faults result.1 } } } in
+        Runs (asked_of words.now) (S.left settings.old) (S.read_faults settings.old) (S.read_faults settings.new) before after result.0 }
+    ensures unread { asked_of words.now ≡ None → S.left settings.new ≡ S.left settings.old }
     ensures history { KeepsHistory (K.report keeper) (K.report result.1) }
 {
-    if !is_pipe(words) {
-        let status = send(output, b"usage\n", Status::Usage);
+    let Some(command) = command_of(words.items()) else {
+        let status = send(output, USAGE, Status::Usage);
         return (status, keeper);
-    }
+    };
     match load_site(alloc, settings) {
-        Ok(site) => pipe(alloc, site, input, output, keeper, clock, draw),
+        Ok(site) => run(alloc, command, site, input, output, keeper, clock, draw),
         Err(SiteFault::Unread) => (Status::ReadFault, keeper),
         Err(SiteFault::Memory) => (Status::Memory, keeper),
         Err(SiteFault::Wrong { field }) => (refuse_settings(alloc, output, field), keeper),
     }
 }
 
-fn is_pipe(words: &TextList) -> bool
-    ensures { IsTrue result ↔ IsPipe words.now }
+fn run<I: Source, O: Sink, K: Keeper, C: Clock, W: Words>(
+    alloc: Global,
+    command: Command<'_>,
+    site: SettingsAll,
+    input: &mut I,
+    output: &mut O,
+    keeper: K,
+    clock: &mut C,
+    draw: &mut W,
+) -> (Status, K)
+    ensures runs { let before : Seen = record { input = record { left = I.left input.old; faults = I.read_faults input.old }; output = record { written = O.written output.old; faults = O.write_faults output.old }; inside = record { readings = C.readings clock.old; place = W.place draw.old; store = record { report = K.report keeper; entry_count = K.entry_count keeper; faults = K.faults keeper } } } in
+        let after : Seen = record { input = record { left = I.left input.new; faults = I.read_faults input.new }; output = record { written = O.written output.new; faults = O.write_faults output.new }; inside = record { readings = C.readings clock.new; place = W.place draw.new; store = record { report = K.report result.1; entry_count = K.entry_count result.1; faults = K.faults result.1 } } } in
+        RunsCommand (asked_by_command command.entry) site before after result.0 }
+    ensures history { KeepsHistory (K.report keeper) (K.report result.1) }
 {
-    match words.items() {
-        [_settings, _store, command] => command.as_str() == "pipe",
-        _ => false,
+    match command {
+        Command::ServePipe => pipe(alloc, site, input, output, keeper, clock, draw),
+        Command::SignValue { salt, value } => {
+            let status = sign(alloc, &site.opening.keys, salt, value, clock, output);
+            (status, keeper)
+        }
+        Command::UnsignText {
+            salt,
+            max_age,
+            text,
+        } => {
+            let keys = &site.opening.keys;
+            let status = unsign(alloc, keys, salt, max_age, text, clock, output);
+            (status, keeper)
+        }
     }
 }
 
 fn load_site<S: Source>(alloc: Global, settings: &mut S) -> Result<SettingsAll, SiteFault>
-    ensures ok { IfOk result (λ site. IfSome (S.left settings.old) (λ left. IsSiteOf (take 4194305 left) (Says site.opening.keys site.settings.allowed))) }
+    ensures ok { IfOk result (λ site. IfSome (S.left settings.old) (λ left. IsSiteOf (take 4194305 left) (Says site))) }
     ensures wrong { (field : ℕ) → IsErrOf result (SiteFault.Wrong field) → IfSome (S.left settings.old) (λ left. IsSiteOf (take 4194305 left) (Wrong field)) }
     ensures unread { IsErrOf result SiteFault.Unread → Rose (S.read_faults settings.old) (S.read_faults settings.new) }
 {
@@ -114,18 +140,28 @@ fn pipe<I: Source, O: Sink, K: Keeper, C: Clock, W: Words>(
     clock: &mut C,
     draw: &mut W,
 ) -> (Status, K)
-    ensures runs { let before : Seen = record { input = I.left input.old; output = O.written output.old; readings = C.readings clock.old; place = W.place draw.old; report = K.report keeper; entry_count = K.entry_count keeper; input_faults = I.read_faults input.old; output_faults = O.write_faults output.old; store_faults = K.faults keeper } in
-        let after : Seen = record { input = I.left input.new; output = O.written output.new; readings = C.readings clock.new; place = W.place draw.new; report = K.report result.1; entry_count = K.entry_count result.1; input_faults = I.read_faults input.new; output_faults = O.write_faults output.new; store_faults = K.faults result.1 } in
-        IsNotOpened (record { keys = site.opening.keys }) before after result.0 ⊎ IsOpened (record { keys = site.opening.keys }) before after result.0 }
+    ensures runs { let before : Seen = record { input = record { left = I.left input.old; faults = I.read_faults input.old }; output = record { written = O.written output.old; faults = O.write_faults output.old }; inside = record { readings = C.readings clock.old; place = W.place draw.old; store = record { report = K.report keeper; entry_count = K.entry_count keeper; faults = K.faults keeper } } } in
+        let after : Seen = record { input = record { left = I.left input.new; faults = I.read_faults input.new }; output = record { written = O.written output.new; faults = O.write_faults output.new }; inside = record { readings = C.readings clock.new; place = W.place draw.new; store = record { report = K.report result.1; entry_count = K.entry_count result.1; faults = K.faults result.1 } } } in
+        IsNotOpened site.opening before after result.0 ⊎ IsOpened site before after result.0 }
     ensures history { KeepsHistory (K.report keeper) (K.report result.1) }
 {
     let SettingsAll { settings, opening } = site;
-    let Settings { cfg, allowed: _ } = settings;
+    let Settings { cfg, allowed, .. } = settings;
     match Ledger::open_with(alloc, keeper, cfg, &opening) {
         Ok(ledger) => {
             let mut ledger = ledger;
-            let status = serve_one(alloc, &mut ledger, input, output, clock, draw);
-            (status, ledger.close())
+            let report = serve_solo(
+                alloc,
+                &mut ledger,
+                &allowed,
+                1,
+                1,
+                input,
+                output,
+                clock,
+                draw,
+            );
+            (status_of(report.end), ledger.close())
         }
         Err(OpenFault::Keeper { keeper }) => (Status::KeeperFault, keeper),
         Err(OpenFault::Full { keeper }) => (Status::Full, keeper),

@@ -1,7 +1,9 @@
 //! How a run ends.
 
 ghost use Rattle.std.specs.Prelude.{◌≡◌};
-ghost use Rattle.auth_server.specs.ExitStatus.{exit_status};
+ghost use Rattle.auth_server.specs.ExitStatus.{exit_status, status_of};
+
+use crate::connection::End;
 
 /// How a run of the program ends.
 #[derive(Clone, Copy, Debug, PartialEq, Eq)]
@@ -20,6 +22,8 @@ pub enum Status {
     KeeperFault,
     /// Memory was wanting.
     Memory,
+    /// The command was refused, and a line says why.
+    Refused,
     /// The audit list or the numbers of starts are used up.
     Full,
 }
@@ -37,7 +41,20 @@ impl Status {
             Status::WriteFault => 5,
             Status::KeeperFault => 6,
             Status::Memory => 7,
+            Status::Refused => 9,
             Status::Full => 10,
         }
+    }
+}
+
+/// How a run ends that served one connection.
+pub fn status_of(end: End) -> Status
+    ensures { result ≡ status_of end }
+{
+    match end {
+        End::Closed => Status::Done,
+        End::ReadFault => Status::ReadFault,
+        End::WriteFault => Status::WriteFault,
+        End::Memory => Status::Memory,
     }
 }

@@ -1,8 +1,7 @@
 //! The fields of a form.
 
-ghost use Rattle.std.specs.Prelude.{◌≡◌, ◌<◌, ◌↔◌, length, IfOk, IsErrOf};
-ghost use Rattle.form_urlencoded.specs.Form.{raw_pairs};
-ghost use Rattle.http_edge.specs.FormFields.{decoded, fields_of};
+ghost use Rattle.std.specs.Prelude.{◌≡◌, ◌<◌, ◌↔◌, IfOk, IsErrOf};
+ghost use Rattle.http_edge.specs.FormFields.{decoded, field_count, fields_of};
 ghost use Rattle.http_edge.specs.declared.form.FieldFault.TheVariants.{Memory};
 
 use crypto_text::Text;
@@ -46,9 +45,9 @@ impl<T: Drop> From<AllocFailed<T>> for FieldFault {
 /// have one name. They are counted before any memory is taken.
 pub fn form_fields(alloc: Global, bytes: &[u8]) -> Result<Vec<Field>, FieldFault>
     ensures value { IfOk result (λ fields. fields.items ≡ fields_of bytes.now) }
-    ensures too_many { IsErrOf result FieldFault.TooMany ↔ 1000 < length (raw_pairs bytes.now) }
+    ensures too_many { IsErrOf result FieldFault.TooMany ↔ 1000 < field_count bytes.now }
 {
-    let count = count_of(bytes);
+    let count = field_count(bytes);
     if count > MOST_FIELDS {
         return Err(FieldFault::TooMany);
     }
@@ -62,8 +61,9 @@ pub fn form_fields(alloc: Global, bytes: &[u8]) -> Result<Vec<Field>, FieldFault
     Ok(fields)
 }
 
-fn count_of(bytes: &[u8]) -> usize
-    ensures { result ≡ length (raw_pairs bytes.now) }
+/// How many fields `form_fields` finds, without reading them. Takes no memory.
+pub fn field_count(bytes: &[u8]) -> usize
+    ensures { result ≡ field_count bytes.now }
 {
     let mut count = 0;
     for _pair in raw_pairs(bytes) {

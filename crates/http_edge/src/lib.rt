@@ -17,7 +17,7 @@ mod take;
 #[cfg(test)]
 mod tests;
 
-pub use crate::form::{Field, FieldFault, form_fields};
+pub use crate::form::{Field, FieldFault, field_count, form_fields};
 pub use crate::laws::{framing_is_one, framing_stands};
 pub use crate::read::read_request;
 pub use crate::reader::Reader;

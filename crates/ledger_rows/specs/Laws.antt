@@ -1,9 +1,13 @@
 -- What follows from the definitions.
-use Rattle.std.specs.Prelude.{◌++◌, [], ◌∷◌, List}
+use Rattle.std.specs.Prelude.{◌≡◌, ◌↔◌, ◌++◌, ℕ, [], ◌∷◌, List, Option, Some}
 use Rattle.ledger_rows.specs.State.{State}
+use Rattle.ledger_rows.specs.Admission.{IsAdmitted, found_user, verdict_of}
 use Rattle.ledger_rows.specs.Step.{IsOperation, state_after}
 use Rattle.ledger_rows.specs.History.{IsLegal}
+use Rattle.ledger_rows.specs.declared.rows.Backend.{Backend}
 use Rattle.ledger_rows.specs.declared.rows.Engine.{Engine}
+use Rattle.ledger_rows.specs.declared.rows.UserRow.{UserRow}
+use Rattle.ledger_rows.specs.declared.verdict.Verdict.TheVariants.{Admitted}
 use Rattle.ledger_rows.specs.declared.entry.Entry.{Entry}
 
 -- a legal history stays legal by one more entry, with the state that its operation leaves
@@ -11,3 +15,10 @@ abbrev pub LegalHistoryGrows : Type 0
 LegalHistoryGrows = (engine : Engine) (opening state : State) (entries : List Entry) (entry : Entry)
     → IsOperation entry.op → IsLegal engine opening entries state
     → IsLegal engine opening (entries ++ entry ∷ []) (state_after engine entry.op state)
+
+-- a load admits a user exactly where the session is stored and unexpired, its configured backend admits the user, and its
+-- stored hash is the HMAC of the user's present password text under a present key
+abbrev pub LoadAdmitsExactly : Type 0
+LoadAdmitsExactly = (backends : List Backend) (state : State) (cookie : Option (List ℕ)) (now : ℕ) (user : UserRow) (index : ℕ)
+    → ((verdict_of backends state cookie now ≡ Admitted index) × (found_user state cookie now ≡ Some user))
+    ↔ IsAdmitted backends state cookie now user index

@@ -1,6 +1,9 @@
 -- What the public contracts of this crate and of those above it cite.
 pub mod State
+pub mod Backends
 pub mod Admission
+pub mod Form
 pub mod Step
+pub mod Opening
 pub mod History
 pub mod Laws

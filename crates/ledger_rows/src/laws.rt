@@ -1,9 +1,14 @@
 //! Laws about the definitions of this crate. A law is a function that does nothing: its clause is
 //! the law, so the check of the crate proves it.
 
-ghost use Rattle.ledger_rows.specs.Laws.{LegalHistoryGrows};
+ghost use Rattle.ledger_rows.specs.Laws.{LegalHistoryGrows, LoadAdmitsExactly};
 
 /// A legal history grows by one operation at a time.
 pub fn legal_history_grows()
     ensures { LegalHistoryGrows }
+{}
+
+/// Whom a load admits, in the words of Django's documentation on sessions.
+pub fn load_admits_exactly()
+    ensures { LoadAdmitsExactly }
 {}

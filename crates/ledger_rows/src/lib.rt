@@ -2,17 +2,23 @@
 //! audit list, and the definitions of the state after an operation, of its reply, and of a legal history.
 #![tactic(auto)]
 
+mod admission;
 mod entry;
+mod form;
 pub mod laws;
 mod operation;
 mod reply;
+mod row_list;
 mod rows;
 #[cfg(test)]
 mod tests;
 mod verdict;
 
+pub use crate::admission::{admit, session_auth_hash, session_auth_text};
 pub use crate::entry::{Entry, Tag};
+pub use crate::form::{is_email, is_permission_word, is_session_key, is_user_name};
 pub use crate::operation::Op;
 pub use crate::reply::{Reply, UserRead};
-pub use crate::rows::{Backend, Cfg, Engine, Opening, UserRow};
+pub use crate::row_list::{Row, RowList};
+pub use crate::rows::{Backend, Cfg, Engine, Opening, SessionRow, UserRow};
 pub use crate::verdict::Verdict;

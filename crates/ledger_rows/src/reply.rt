@@ -5,7 +5,7 @@ use crate::verdict::Verdict;
 use crypto_text::Text;
 
 /// A user as a step found it, with the hash that a session of it is to keep, as Django's
-/// `get_session_auth_hash` gives it. No step reads users yet.
+/// `get_session_auth_hash` gives it.
 #[derive(Debug, Drop, PartialEq, Eq)]
 pub struct UserRead {
     pub row: UserRow,

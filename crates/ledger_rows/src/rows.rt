@@ -1,7 +1,14 @@
-//! The rows of the tables, and what a site has set for its logins.
+//! The rows of the tables, what a new store begins with, and what a site has set for its logins.
 
+ghost use Rattle.std.specs.Prelude.{◌≡◌, IfOk};
+ghost use Rattle.ledger_rows.specs.Backends.{path_of};
+
+use crate::row_list::RowList;
 use crypto_text::{Ids, Text};
+use pass_hashers::{Algo, Hasher};
+use permissions::{GroupRow, PermRow};
 use signing_core::Keys;
+use std::alloc::{AllocError, Global};
 
 /// A user, as Django's `User`.
 #[derive(Debug, Drop, PartialEq, Eq)]
@@ -19,6 +26,16 @@ pub struct UserRow {
     pub groups: Ids,
     /// The ids of the user's own permissions.
     pub perms: Ids,
+}
+
+/// A session, as Django's `Session`.
+#[derive(Debug, Drop, PartialEq, Eq)]
+pub struct SessionRow {
+    pub key: Text,
+    /// The session's map, signed.
+    pub text: Text,
+    /// The first second in which the session is over, since 1970.
+    pub expire: u64,
 }
 
 /// What decides, once the password or the session is right, whether a user may come in.
@@ -42,11 +59,64 @@ pub enum Engine {
 pub struct Cfg {
     pub engine: Engine,
     /// In the order in which they are asked.
-    pub backends: Vec<Backend>,
+    pub backends: RowList<Backend>,
+    /// The algorithms whose password texts are verified.
+    pub installed: RowList<Algo>,
+    /// The hasher of new password texts.
+    pub preferred: Hasher,
 }
 
 /// What a new store begins with.
 #[derive(Debug, Drop)]
 pub struct Opening {
     pub keys: Keys,
+    pub users: RowList<UserRow>,
+    pub groups: RowList<GroupRow>,
+    pub perms: RowList<PermRow>,
+    pub sessions: RowList<SessionRow>,
+}
+
+impl Backend {
+    /// The backend's name in sessions and settings, a Python path.
+    #[tactic(auto, unfolding(crate::specs::Backends::path_of))]
+    pub fn path(self) -> &'static str
+        ensures { result.now ≡ path_of self }
+    {
+        match self {
+            Backend::Model => "django.contrib.auth.backends.ModelBackend",
+            Backend::AllowAll => "django.contrib.auth.backends.AllowAllUsersModelBackend",
+        }
+    }
+}
+
+impl UserRow {
+    /// The same row once more.
+    pub fn copy(&self, alloc: Global) -> Result<UserRow, AllocError>
+        ensures { IfOk result (λ copy. copy ≡ self.now) }
+    {
+        Ok(UserRow {
+            id: self.id,
+            name: self.name.copy(alloc)?,
+            email: self.email.copy(alloc)?,
+            password: self.password.copy(alloc)?,
+            active: self.active,
+            superuser: self.superuser,
+            last_login: self.last_login,
+            groups: self.groups.copy(alloc)?,
+            perms: self.perms.copy(alloc)?,
+        })
+    }
+}
+
+impl SessionRow {
+    /// The same row once more.
+    pub fn copy(&self, alloc: Global) -> Result<SessionRow, AllocError>
+        ensures { IfOk result (λ copy. copy ≡ self.now) }
+    {
+        Ok(SessionRow {
+            key: self.key.copy(alloc)?,
+            text: self.text.copy(alloc)?,
+            expire: self.expire,
+        })
+    }
 }

@@ -1,4 +1,4 @@
-use crate::{FieldFault, form_fields};
+use crate::{FieldFault, field_count, form_fields};
 use std::test::Fail;
 
 #[test]
@@ -22,6 +22,7 @@ fn a_thousand_fields_are_read_and_one_more_is_refused(rt: HostRuntime) -> Result
     }
     assert_eq!(rt; form_fields(alloc, &form)?.len(), 1000);
     form.push(b'c')?;
+    assert_eq!(rt; field_count(&form), 1001);
     match form_fields(alloc, &form) {
         Ok(_) => panic!(rt; "1,001 fields are too many"),
         Err(fault) => assert_eq!(rt; fault, FieldFault::TooMany),

@@ -1,0 +1,3 @@
+-- What the public contracts of this crate and of those above it cite.
+pub mod Keeper
+pub mod MemoryKeeper

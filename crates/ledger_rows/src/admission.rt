@@ -1,0 +1,113 @@
+//! Who a stored session speaks for.
+
+ghost use Rattle.std.specs.Prelude.{◌≡◌, ◌↔◌, IfOk, IsTrue, option_map};
+ghost use Rattle.std.specs.Option.{option_copied};
+ghost use Rattle.crypto_text.specs.Hexadecimal.{hex_text};
+ghost use Rattle.ledger_rows.specs.Admission.{IsRowOf, admits, auth_hash, backend_of, key_index, verdict_on_auth, verdict_on_user};
+
+use crate::rows::{Backend, UserRow};
+use crate::verdict::Verdict;
+use crypto_text::{Text, hex_of, salted_hmac};
+use session_codec::AuthPart;
+use signing_core::Keys;
+use std::alloc::{AllocError, Global};
+
+const SESSION_AUTH_SALT: &[u8] =
+    b"django.contrib.auth.models.AbstractBaseUser.get_session_auth_hash";
+
+/// The hash that a session of a user keeps, as Django's `get_session_auth_hash`: it tells the password
+/// text and the key, so that it admits nobody once one of them is gone. Takes no memory.
+#[tactic(auto, unfolding(crate::specs::Admission::auth_hash, crate::specs::Admission::session_auth_salt))]
+pub fn session_auth_hash(password: &str, key: &[u8]) -> [u8; 64]
+    ensures { result ≡ auth_hash password.now key.now }
+{
+    hex_of(&salted_hmac(SESSION_AUTH_SALT, password.as_bytes(), key))
+}
+
+/// The same hash as a text.
+#[tactic(auto, unfolding(crate::specs::Admission::auth_hash, crate::specs::Admission::session_auth_salt))]
+pub fn session_auth_text(alloc: Global, password: &str, key: &[u8]) -> Result<Text, AllocError>
+    ensures { IfOk result (λ text. text ≡ auth_hash password.now key.now) }
+{
+    hex_text(
+        alloc,
+        salted_hmac(SESSION_AUTH_SALT, password.as_bytes(), key),
+    )
+}
+
+fn hex_text(alloc: Global, mac: [u8; 32]) -> Result<Text, AllocError>
+    ensures { IfOk result (λ text. text ≡ hex_text mac) }
+{
+    Ok(Text::from_string(hex::encode(alloc, mac)?))
+}
+
+/// The verdict on a session that was read: its login, the configured backends in their order, the user
+/// whom the login names, and the present keys. Takes no memory.
+pub fn admit(
+    part: Option<&AuthPart<'_>>,
+    backends: &[Backend],
+    user: Option<&UserRow>,
+    keys: &Keys,
+) -> Verdict
+    requires row { IsRowOf (option_map (λ part. record { user = part.now.user; backend = part.now.backend.now; hash = part.now.hash.now }) part) (option_copied user) }
+    ensures { result ≡ verdict_on_auth backends.now keys.now (option_map (λ part. record { user = part.now.user; backend = part.now.backend.now; hash = part.now.hash.now }) part.entry) (option_copied user.entry) }
+{
+    match part {
+        Some(part) => match backend_of(backends, part.backend) {
+            Some(backend) => verdict_on_user(backend, keys, part.hash, user),
+            None => Verdict::BadBackend,
+        },
+        None => Verdict::NoAuth,
+    }
+}
+
+fn backend_of(backends: &[Backend], path: &str) -> Option<Backend>
+    ensures { result ≡ backend_of backends.now path.now }
+{
+    for backend in backends {
+        if backend.path() == path {
+            return Some(*backend);
+        }
+    }
+    None
+}
+
+fn verdict_on_user(backend: Backend, keys: &Keys, hash: &str, user: Option<&UserRow>) -> Verdict
+    ensures { result ≡ verdict_on_user backend keys.now hash.now (option_copied user.entry) }
+{
+    match user {
+        Some(user) if admits(backend, user) => match key_index(keys, user.password.as_str(), hash) {
+            Some(key_index) => Verdict::Admitted { key_index },
+            None => Verdict::BadHash,
+        },
+        Some(_) => Verdict::Inactive,
+        None => Verdict::NoUser,
+    }
+}
+
+fn admits(backend: Backend, user: &UserRow) -> bool
+    ensures { result ≡ admits backend user.now }
+{
+    match backend {
+        Backend::Model => user.active,
+        Backend::AllowAll => true,
+    }
+}
+
+#[tactic(auto, using(crate::proofs::AdmissionLemmas::key_is_first, crate::proofs::AdmissionLemmas::no_key_fits))]
+fn key_index(keys: &Keys, password: &str, hash: &str) -> Option<usize>
+    ensures { result ≡ key_index keys.now password.now hash.now }
+{
+    for at in 0..keys.len() {
+        if is_hash_under(keys.key(at), password, hash) {
+            return Some(at);
+        }
+    }
+    None
+}
+
+fn is_hash_under(key: &[u8], password: &str, hash: &str) -> bool
+    ensures { IsTrue result ↔ (auth_hash password.now key.now ≡ hash.now) }
+{
+    session_auth_hash(password, key).as_slice() == hash.as_bytes()
+}

@@ -1,0 +1,3 @@
+pub mod DifferentLemmas
+pub mod OpeningLemmas
+pub mod SiteFileLemmas

@@ -1,0 +1,81 @@
+-- The opening of well formed entries is one that a store may begin with.
+use Rattle.std.proofs.Common.{◌≡◌, ◌==◌, ◌<◌, ◌≤◌, ℕ, Bool, true, false, cond, List, [], ◌∷◌, Option, Some, None, IsSome, length, map, refl, ap, sym, subst, ◌∙◌, arith, suc, zero}
+use Rattle.std.specs.List.{All, Contains}
+use Rattle.std.proofs.lemmas.List.{get_or_default}
+use Rattle.std.proofs.lemmas.List.Elements.{All-map}
+use Rattle.std.proofs.lemmas.Bool.{eqb-true}
+use Rattle.signing_core.specs.Keys.{IsKeys, key_at}
+use Rattle.session_codec.specs.SessionMap.{auth_members}
+use Rattle.session_codec.specs.SessionText.{text_of}
+use Rattle.session_codec.specs.declared.session_text.SessionKind.TheVariants.{Stored}
+use Rattle.ledger_rows.specs.Admission.{auth_hash}
+use Rattle.ledger_rows.specs.Backends.{path_of}
+use Rattle.ledger_rows.specs.Opening.{AreDifferent, IsLoginText, IsOpening, IsOpeningSession, keys_of_sessions, login_text}
+use Rattle.ledger_rows.specs.State.{State, opening_state, user_of}
+use Rattle.ledger_rows.specs.declared.rows.Backend.TheVariants.{Model}
+use Rattle.ledger_rows.specs.declared.rows.SessionRow.{SessionRow}
+use Rattle.ledger_rows.specs.declared.rows.UserRow.{UserRow}
+use Rattle.site_file.specs.OpeningForm.{AreEntries, IsSessionEntry, keys_of_entries, opening_from, password_of, session_row}
+use Rattle.site_file.specs.declared.entries.Entries.{Entries}
+use Rattle.site_file.specs.declared.entries.SessionEntry.{SessionEntry}
+
+-- the user that is found is one of them, and has the id
+abbrev IsFound : List UserRow → ℕ → UserRow → Type 0
+IsFound users id user = Contains users user × (user.id ≡ id)
+
+found_first : (row : UserRow) (rows : List UserRow) (id : ℕ) (user : UserRow) (same : Bool) → (row.id == id) ≡ same
+    → (user_of rows id ≡ Some user → IsFound rows id user) → cond same (Some row) (user_of rows id) ≡ Some user → IsFound (row ∷ rows) id user
+found_first row rows id user true same behind found =
+    let here : row ≡ user = cc in ((0, omega arith, here), ap (λ (r : UserRow). r.id) (sym here) ∙ eqb-true row.id id same)
+found_first row rows id user false same behind found =
+    let in_rest = behind found in ((suc in_rest.0.0, omega (arith, in_rest.0.1), in_rest.0.2), in_rest.1)
+
+user_of-Some : (users : List UserRow) (id : ℕ) (user : UserRow) → user_of users id ≡ Some user → IsFound users id user
+user_of-Some [] id user found = absurd (cc found)
+user_of-Some (row ∷ rows) id user found = found_first row rows id user (row.id == id) refl (user_of-Some rows id user) found
+
+first_key-held : (keys : List (List ℕ)) → IsKeys keys → Contains keys (key_at keys 0)
+first_key-held keys form = (0, form.some, get_or_default keys 0 (key_at keys 0) [] form.some)
+
+-- a session's text is that of the login of the user who is found
+login_text-found : (state : State) (entry : SessionEntry) (found : Option UserRow) → IsKeys state.keys → IsSessionEntry state.users entry → IsSome found
+    → user_of state.users entry.user ≡ found
+    → IsLoginText state (text_of Stored (auth_members entry.user (path_of Model) (auth_hash (password_of found) (key_at state.keys 0))) state.keys entry.began)
+login_text-found state entry None keys form some is = absurd (cc some)
+login_text-found state entry (Some user) keys form some is =
+    let listed = user_of-Some state.users entry.user user is in record {
+      user = user;
+      backend = Model;
+      key = key_at state.keys 0;
+      moment = entry.began;
+      listed = listed.0;
+      held = first_key-held state.keys keys;
+      began = form.began;
+      whole = ap (λ id. text_of Stored (auth_members id (path_of Model) (auth_hash user.password (key_at state.keys 0))) state.keys entry.began) (sym listed.1);
+    }
+
+session_row-form : (state : State) (entry : SessionEntry) → IsKeys state.keys → IsSessionEntry state.users entry → IsOpeningSession state (session_row state.keys state.users entry)
+session_row-form state entry keys form = record {
+  key = form.key;
+  expire = form.expire;
+  text = login_text-found state entry (user_of state.users entry.user) keys form form.user refl;
+}
+
+session_rows-form : (state : State) (entries : List SessionEntry) → IsKeys state.keys → All (IsSessionEntry state.users) entries
+    → All (IsOpeningSession state) (map (session_row state.keys state.users) entries)
+session_rows-form state entries keys form = All-map (IsOpeningSession state) (session_row state.keys state.users) entries (λ k d lt. session_row-form state _ keys (form k d lt))
+
+session_rows-keys : (keys : List (List ℕ)) (users : List UserRow) (entries : List SessionEntry) → keys_of_sessions (map (session_row keys users) entries) ≡ keys_of_entries entries
+session_rows-keys keys users [] = refl
+session_rows-keys keys users (entry ∷ entries) = ap (λ rest. entry.key ∷ rest) (session_rows-keys keys users entries)
+
+pub opening_from-form : (keys : List (List ℕ)) (entries : Entries) → IsKeys keys → AreEntries entries → IsOpening (opening_state (opening_from keys entries))
+opening_from-form keys entries is_keys form = record {
+  keys = is_keys;
+  users = form.users;
+  groups = form.groups;
+  perms = form.perms;
+  session_keys = subst AreDifferent (sym (session_rows-keys keys entries.users entries.sessions)) form.sessions.keys;
+  sessions = session_rows-form (opening_state (opening_from keys entries)) entries.sessions is_keys form.sessions.rows;
+  boot = refl;
+}

@@ -1,0 +1,6 @@
+-- What the public contracts of this crate cite.
+pub mod Fields
+pub mod Entries
+pub mod OpeningForm
+pub mod SiteFile
+pub mod Laws

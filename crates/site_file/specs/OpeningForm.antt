@@ -1,0 +1,73 @@
+-- When the field `opening` of a settings file is well formed, and the opening that it says. This project's own.
+use Rattle.std.specs.Prelude.{◌≡◌, ◌^◌, ℕ, List, [], ◌∷◌, IsSome, Option, Some, None, map}
+use Rattle.std.specs.List.{All}
+use Rattle.serde_json.specs.Data.{Data}
+use Rattle.signing_core.specs.Keys.{key_at}
+use Rattle.session_codec.specs.SessionMap.{auth_members}
+use Rattle.session_codec.specs.SessionText.{text_of}
+use Rattle.session_codec.specs.declared.session_text.SessionKind.TheVariants.{Stored}
+use Rattle.ledger_rows.specs.Admission.{auth_hash}
+use Rattle.ledger_rows.specs.Backends.{path_of}
+use Rattle.ledger_rows.specs.Form.{IsSessionKey}
+use Rattle.ledger_rows.specs.Opening.{AreDifferent, AreOpeningGroups, AreOpeningPerms, AreOpeningUsers, ids_of_groups, ids_of_perms}
+use Rattle.ledger_rows.specs.State.{user_of}
+use Rattle.ledger_rows.specs.Step.{IsMoment}
+use Rattle.ledger_rows.specs.declared.rows.Backend.TheVariants.{Model}
+use Rattle.ledger_rows.specs.declared.rows.Opening.{Opening}
+use Rattle.ledger_rows.specs.declared.rows.SessionRow.{SessionRow}
+use Rattle.ledger_rows.specs.declared.rows.UserRow.{UserRow}
+use Rattle.site_file.specs.Entries.{entries_of}
+use Rattle.site_file.specs.declared.entries.Entries.{Entries}
+use Rattle.site_file.specs.declared.entries.SessionEntry.{SessionEntry}
+
+abbrev pub keys_of_entries : List SessionEntry → List (List ℕ)
+keys_of_entries sessions = map (λ (entry : SessionEntry). entry.key) sessions
+
+-- a session of an opening user; so far the first backend and the first key are the only ones that can be named
+pub record IsSessionEntry (users : List UserRow) (entry : SessionEntry) : Type 0 where
+  pub key : IsSessionKey entry.key
+  pub user : IsSome (user_of users entry.user)
+  pub backend : entry.backend ≡ 0
+  pub under : entry.under ≡ 0
+  pub began : IsMoment entry.began
+  pub expire : IsMoment entry.expire
+
+pub record AreSessionEntries (users : List UserRow) (sessions : List SessionEntry) : Type 0 where
+  pub keys : AreDifferent (keys_of_entries sessions)
+  pub rows : All (IsSessionEntry users) sessions
+
+-- all rows are well formed
+pub record AreEntries (entries : Entries) : Type 0 where
+  pub users : AreOpeningUsers (ids_of_groups entries.groups) (ids_of_perms entries.perms) entries.users
+  pub groups : AreOpeningGroups (ids_of_perms entries.perms) entries.groups
+  pub perms : AreOpeningPerms entries.perms
+  pub sessions : AreSessionEntries entries.users entries.sessions
+
+-- the password text of a user
+abbrev pub password_of : Option UserRow → List ℕ
+password_of None = []
+password_of (Some user) = user.password
+
+-- the map of a session that its user began, signed under the first key
+abbrev pub session_row : List (List ℕ) → List UserRow → SessionEntry → SessionRow
+session_row keys users entry = record {
+  key = entry.key;
+  text = text_of Stored (auth_members entry.user (path_of Model) (auth_hash (password_of (user_of users entry.user)) (key_at keys 0))) keys entry.began;
+  expire = entry.expire;
+}
+
+abbrev pub opening_from : List (List ℕ) → Entries → Opening
+opening_from keys entries = record {
+  keys = keys;
+  users = entries.users;
+  groups = entries.groups;
+  perms = entries.perms;
+  sessions = map (session_row keys entries.users) entries.sessions;
+}
+
+-- what the field says under these keys, where its rows are well formed
+pub record IsOpeningOf (keys : List (List ℕ)) (value : Option Data) (opening : Opening) : Type 0 where
+  pub entries : Entries
+  pub read : entries_of value ≡ Some entries
+  pub form : AreEntries entries
+  pub rows : opening ≡ opening_from keys entries

@@ -1,0 +1,19 @@
+//! The settings file of a site: one JSON object. `read_settings` reads it, and tells the number of the
+//! first field that isn't well formed; `SiteFile.IsSiteOf` says which file says what.
+#![tactic(auto)]
+
+mod different;
+mod entries;
+mod fields;
+mod hashers;
+pub mod laws;
+mod opening;
+mod opening_form;
+mod row_ids;
+mod settings;
+#[cfg(test)]
+mod tests;
+mod texts;
+
+pub use crate::entries::{Entries, SessionEntry};
+pub use crate::settings::{MOST_BYTES, Settings, SettingsAll, SettingsFault, read_settings};

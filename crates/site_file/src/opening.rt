@@ -1,0 +1,99 @@
+//! The field `opening`: what a new store begins with.
+
+ghost use Rattle.std.specs.Prelude.{◌≡◌, None, IfOk, IsErrOf, IsSome, map, option_map};
+ghost use Rattle.std.specs.List.{All};
+ghost use Rattle.serde_json.specs.View.{view};
+ghost use Rattle.signing_core.specs.Keys.{key_at};
+ghost use Rattle.ledger_rows.specs.Opening.{IsOpening};
+ghost use Rattle.ledger_rows.specs.State.{opening_state, user_of};
+ghost use Rattle.ledger_rows.specs.declared.rows.Opening.{Opening};
+ghost use Rattle.site_file.specs.OpeningForm.{AreEntries, IsOpeningOf, opening_from, password_of, session_row};
+
+use crate::entries::{Entries, SessionEntry, entries_of};
+use crate::fields::FieldFault;
+use crate::opening_form::{are_entries, user_of};
+use ledger_rows::{Backend, Opening, RowList, SessionRow, UserRow, session_auth_text};
+use serde_json::Value;
+use session_codec::{SessionKind, SessionMap, encode};
+use signing_core::Keys;
+use std::alloc::{AllocError, Global};
+
+/// What the field, whose value may be absent, says under these keys.
+pub(crate) fn opening_of(
+    alloc: Global,
+    keys: Keys,
+    value: Option<&Value>,
+) -> Result<Opening, FieldFault>
+    ensures ok { IfOk result (IsOpeningOf keys (option_map (λ v. view v.now) value.entry)) }
+    ensures opening { IfOk result (λ opening. IsOpening (opening_state opening)) }
+    ensures form { IsErrOf result FieldFault.Form → (opening : Opening) → ¬ IsOpeningOf keys (option_map (λ v. view v.now) value.entry) opening }
+{
+    let entries = entries_of(alloc, value)?;
+    if are_entries(alloc, &entries)? {
+        Ok(opening_from(alloc, keys, entries)?)
+    } else {
+        Err(FieldFault::Form)
+    }
+}
+
+fn opening_from(alloc: Global, keys: Keys, entries: Entries) -> Result<Opening, AllocError>
+    requires { AreEntries entries }
+    ensures value { IfOk result (λ opening. opening ≡ opening_from keys entries) }
+    ensures form { IfOk result (λ opening. IsOpening (opening_state opening)) }
+{
+    let sessions = session_rows(
+        alloc,
+        &keys,
+        entries.users.items(),
+        entries.sessions.items(),
+    )?;
+    Ok(Opening {
+        keys,
+        users: entries.users,
+        groups: entries.groups,
+        perms: entries.perms,
+        sessions: RowList::from_vec(sessions),
+    })
+}
+
+fn session_rows(
+    alloc: Global,
+    keys: &Keys,
+    users: &[UserRow],
+    sessions: &[SessionEntry],
+) -> Result<Vec<SessionRow>, AllocError>
+    ensures { IfOk result (λ rows. rows.items ≡ map (session_row keys.now users.now) sessions.now) }
+{
+    let mut rows = Vec::with_capacity(alloc, sessions.len())?;
+    for entry in sessions {
+        rows.push(session_row(alloc, keys, users, entry)?)?;
+    }
+    Ok(rows)
+}
+
+fn session_row(
+    alloc: Global,
+    keys: &Keys,
+    users: &[UserRow],
+    entry: &SessionEntry,
+) -> Result<SessionRow, AllocError>
+    ensures { IfOk result (λ row. row ≡ session_row keys.now users.now entry.now) }
+{
+    let hash = session_auth_text(alloc, password_of(users, entry.user), keys.first())?;
+    let path = Backend::Model.path();
+    let map = SessionMap::of_auth(alloc, entry.user, path, hash.as_str())?;
+    Ok(SessionRow {
+        key: entry.key.copy(alloc)?,
+        text: encode(alloc, &map, SessionKind::Stored, keys, entry.began)?,
+        expire: entry.expire,
+    })
+}
+
+fn password_of(users: &[UserRow], id: u64) -> &str
+    ensures { result.now ≡ password_of (user_of users.now id) }
+{
+    match user_of(users, id) {
+        Some(user) => user.password.as_str(),
+        None => "",
+    }
+}

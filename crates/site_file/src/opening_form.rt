@@ -1,0 +1,225 @@
+//! Whether the rows of an opening are well formed.
+
+ghost use Rattle.std.specs.Prelude.{◌≡◌, ◌↔◌, IfOk, IsTrue};
+ghost use Rattle.std.specs.List.{All};
+ghost use Rattle.std.specs.Option.{option_copied};
+ghost use Rattle.permissions.specs.PermissionSet.{name_of};
+ghost use Rattle.ledger_rows.specs.Opening.{AreOpeningGroups, AreOpeningPerms, AreOpeningUsers, IsOpeningGroup, IsOpeningPerm, IsOpeningUser, ids_of_groups, ids_of_perms, ids_of_users, names_of_groups, names_of_perms, names_of_users};
+ghost use Rattle.ledger_rows.specs.State.{user_of};
+ghost use Rattle.ledger_rows.specs.Step.{IsMoment};
+ghost use Rattle.site_file.specs.OpeningForm.{AreEntries, AreSessionEntries, IsSessionEntry, keys_of_entries};
+
+use crate::different::are_different;
+use crate::entries::{Entries, SessionEntry};
+use crate::row_ids::{are_ids_among, are_row_ids};
+use crypto_text::Text;
+use ledger_rows::{UserRow, is_email, is_permission_word, is_session_key, is_user_name};
+use pass_hashers::is_password_text;
+use permissions::{GroupRow, PermRow};
+use std::alloc::{AllocError, Global};
+
+const FIRST_MOMENT: u64 = 1_000_000_000;
+
+const LAST_MOMENT: u64 = 250_000_000_000;
+
+/// Whether all rows are well formed.
+pub(crate) fn are_entries(alloc: Global, entries: &Entries) -> Result<bool, AllocError>
+    ensures { IfOk result (λ answer. IsTrue answer ↔ AreEntries entries.now) }
+{
+    let users = are_users(alloc, entries)?;
+    let groups = are_groups(alloc, entries)?;
+    let perms = are_perms(alloc, entries.perms.items())?;
+    let sessions = are_sessions(alloc, entries.users.items(), entries.sessions.items())?;
+    Ok(users && groups && perms && sessions)
+}
+
+fn are_users(alloc: Global, entries: &Entries) -> Result<bool, AllocError>
+    ensures { IfOk result (λ answer. IsTrue answer ↔ AreOpeningUsers (ids_of_groups entries.now.groups) (ids_of_perms entries.now.perms) entries.now.users) }
+{
+    let ids = user_ids(alloc, entries.users.items())?;
+    let names = user_names(alloc, entries.users.items())?;
+    let groups = group_ids(alloc, entries.groups.items())?;
+    let perms = perm_ids(alloc, entries.perms.items())?;
+    Ok(
+        are_row_ids(ids.as_slice())
+            && are_different(names.as_slice())
+            && are_user_rows(groups.as_slice(), perms.as_slice(), entries.users.items()),
+    )
+}
+
+fn are_user_rows(groups: &[u64], perms: &[u64], users: &[UserRow]) -> bool
+    ensures { IsTrue result ↔ All (IsOpeningUser groups.now perms.now) users.now }
+{
+    users.iter().all(|user| is_user(groups, perms, user))
+}
+
+fn is_user(groups: &[u64], perms: &[u64], user: &UserRow) -> bool
+    ensures { IsTrue result ↔ IsOpeningUser groups.now perms.now user.now }
+{
+    is_user_name(user.name.as_str())
+        && is_email(user.email.as_str())
+        && is_password_text(user.password.as_str())
+        && user.last_login.is_none()
+        && are_ids_among(groups, user.groups.items())
+        && are_ids_among(perms, user.perms.items())
+}
+
+fn are_groups(alloc: Global, entries: &Entries) -> Result<bool, AllocError>
+    ensures { IfOk result (λ answer. IsTrue answer ↔ AreOpeningGroups (ids_of_perms entries.now.perms) entries.now.groups) }
+{
+    let ids = group_ids(alloc, entries.groups.items())?;
+    let names = group_names(alloc, entries.groups.items())?;
+    let perms = perm_ids(alloc, entries.perms.items())?;
+    Ok(
+        are_row_ids(ids.as_slice())
+            && are_different(names.as_slice())
+            && are_group_rows(perms.as_slice(), entries.groups.items()),
+    )
+}
+
+fn are_group_rows(perms: &[u64], groups: &[GroupRow]) -> bool
+    ensures { IsTrue result ↔ All (IsOpeningGroup perms.now) groups.now }
+{
+    groups.iter().all(|group| is_group(perms, group))
+}
+
+#[tactic(auto, unfolding(ledger_rows::specs::Opening::IsOpeningGroup))]
+fn is_group(perms: &[u64], group: &GroupRow) -> bool
+    ensures { IsTrue result ↔ IsOpeningGroup perms.now group.now }
+{
+    are_ids_among(perms, group.perms.items())
+}
+
+fn are_perms(alloc: Global, perms: &[PermRow]) -> Result<bool, AllocError>
+    ensures { IfOk result (λ answer. IsTrue answer ↔ AreOpeningPerms perms.now) }
+{
+    let ids = perm_ids(alloc, perms)?;
+    let names = perm_names(alloc, perms)?;
+    Ok(are_row_ids(ids.as_slice()) && are_different(names.as_slice()) && are_perm_rows(perms))
+}
+
+fn are_perm_rows(perms: &[PermRow]) -> bool
+    ensures { IsTrue result ↔ All IsOpeningPerm perms.now }
+{
+    perms.iter().all(|perm| is_perm(perm))
+}
+
+fn is_perm(perm: &PermRow) -> bool
+    ensures { IsTrue result ↔ IsOpeningPerm perm.now }
+{
+    is_permission_word(perm.app.as_str()) && is_permission_word(perm.codename.as_str())
+}
+
+fn are_sessions(
+    alloc: Global,
+    users: &[UserRow],
+    sessions: &[SessionEntry],
+) -> Result<bool, AllocError>
+    ensures { IfOk result (λ answer. IsTrue answer ↔ AreSessionEntries users.now sessions.now) }
+{
+    let keys = session_keys(alloc, sessions)?;
+    Ok(are_different(keys.as_slice()) && are_session_rows(users, sessions))
+}
+
+fn are_session_rows(users: &[UserRow], sessions: &[SessionEntry]) -> bool
+    ensures { IsTrue result ↔ All (IsSessionEntry users.now) sessions.now }
+{
+    sessions.iter().all(|entry| is_session(users, entry))
+}
+
+fn is_session(users: &[UserRow], entry: &SessionEntry) -> bool
+    ensures { IsTrue result ↔ IsSessionEntry users.now entry.now }
+{
+    is_session_key(entry.key.as_str())
+        && user_of(users, entry.user).is_some()
+        && entry.backend == 0
+        && entry.under == 0
+        && is_moment(entry.began)
+        && is_moment(entry.expire)
+}
+
+/// The user of an id.
+pub(crate) fn user_of(users: &[UserRow], id: u64) -> Option<&UserRow>
+    ensures { option_copied result ≡ user_of users.now id }
+{
+    for user in users {
+        if user.id == id {
+            return Some(user);
+        }
+    }
+    None
+}
+
+fn is_moment(now: u64) -> bool
+    ensures { IsTrue result ↔ IsMoment now }
+{
+    FIRST_MOMENT <= now && now <= LAST_MOMENT
+}
+
+fn user_ids(alloc: Global, users: &[UserRow]) -> Result<Vec<u64>, AllocError>
+    ensures { IfOk result (λ ids. ids.items ≡ ids_of_users users.now) }
+{
+    users.iter().map(|row| row.id).collect(alloc)
+}
+
+fn group_ids(alloc: Global, groups: &[GroupRow]) -> Result<Vec<u64>, AllocError>
+    ensures { IfOk result (λ ids. ids.items ≡ ids_of_groups groups.now) }
+{
+    groups.iter().map(|row| row.id).collect(alloc)
+}
+
+fn perm_ids(alloc: Global, perms: &[PermRow]) -> Result<Vec<u64>, AllocError>
+    ensures { IfOk result (λ ids. ids.items ≡ ids_of_perms perms.now) }
+{
+    perms.iter().map(|row| row.id).collect(alloc)
+}
+
+fn user_names(alloc: Global, users: &[UserRow]) -> Result<Vec<Text>, AllocError>
+    ensures { IfOk result (λ names. names.items ≡ names_of_users users.now) }
+{
+    let mut names = Vec::with_capacity(alloc, users.len())?;
+    for user in users {
+        names.push(user.name.copy(alloc)?)?;
+    }
+    Ok(names)
+}
+
+fn group_names(alloc: Global, groups: &[GroupRow]) -> Result<Vec<Text>, AllocError>
+    ensures { IfOk result (λ names. names.items ≡ names_of_groups groups.now) }
+{
+    let mut names = Vec::with_capacity(alloc, groups.len())?;
+    for group in groups {
+        names.push(group.name.copy(alloc)?)?;
+    }
+    Ok(names)
+}
+
+fn perm_names(alloc: Global, perms: &[PermRow]) -> Result<Vec<Text>, AllocError>
+    ensures { IfOk result (λ names. names.items ≡ names_of_perms perms.now) }
+{
+    let mut names = Vec::with_capacity(alloc, perms.len())?;
+    for perm in perms {
+        names.push(perm_name(alloc, perm)?)?;
+    }
+    Ok(names)
+}
+
+fn perm_name(alloc: Global, perm: &PermRow) -> Result<Text, AllocError>
+    ensures { IfOk result (λ name. name ≡ name_of perm.now) }
+{
+    let mut name = String::new(alloc);
+    name.push_str(perm.app.as_str())?;
+    name.push_str(".")?;
+    name.push_str(perm.codename.as_str())?;
+    Ok(Text::from_string(name))
+}
+
+fn session_keys(alloc: Global, sessions: &[SessionEntry]) -> Result<Vec<Text>, AllocError>
+    ensures { IfOk result (λ keys. keys.items ≡ keys_of_entries sessions.now) }
+{
+    let mut keys = Vec::with_capacity(alloc, sessions.len())?;
+    for entry in sessions {
+        keys.push(entry.key.copy(alloc)?)?;
+    }
+    Ok(keys)
+}
