@@ -1,6 +1,6 @@
 -- The commands of the program, and the lines that they write: this project's own.
 use Rattle.std.specs.Prelude.{◌≡◌, ◌⊎◌, ℕ, List, [], ◌∷◌, ◌++◌, Option, None, Some, bytes_eq, codes, if◌then◌else◌, option_map}
-use Rattle.session_codec.specs.SessionMap.{user_id_of}
+use Rattle.crypto_text.specs.Numeral.{decimal_of}
 use Rattle.signing_core.specs.Keys.{key_at}
 use Rattle.signing_core.specs.Signature.{signed_text, timed_value}
 use Rattle.signing_core.specs.TimedText.{HasTimedFault, IsCurrent}
@@ -24,10 +24,6 @@ asked_by_command ServePipe = Pipe
 asked_by_command (SignValue salt value) = Sign salt.now value.now
 asked_by_command (UnsignText salt max_age text) = Unsign salt.now max_age text.now
 
--- the number of a word: decimal digits without leading zero, below 2^64; from 1 on it has the form of a user's id
-abbrev pub number_of : List ℕ → Option ℕ
-number_of word = if bytes_eq word (codes "0") then Some 0 else user_id_of word
-
 -- behind `pipe` there is no word
 abbrev pub pipe_of : List (List ℕ) → Option Asked
 pipe_of [] = Some Pipe
@@ -40,12 +36,12 @@ sign_of (salt ∷ []) = None
 sign_of (salt ∷ value ∷ []) = Some (Sign salt value)
 sign_of (salt ∷ value ∷ word ∷ words) = None
 
--- behind `unsign` there are a salt, the greatest age in seconds and a text
+-- behind `unsign` there are a salt, the greatest age in seconds in decimal, and a text
 abbrev pub unsign_of : List (List ℕ) → Option Asked
 unsign_of [] = None
 unsign_of (salt ∷ []) = None
 unsign_of (salt ∷ age ∷ []) = None
-unsign_of (salt ∷ age ∷ text ∷ []) = option_map (λ max_age. Unsign salt max_age text) (number_of age)
+unsign_of (salt ∷ age ∷ text ∷ []) = option_map (λ max_age. Unsign salt max_age text) (decimal_of age)
 unsign_of (salt ∷ age ∷ text ∷ word ∷ words) = None
 
 -- by the name of the command

@@ -1,11 +1,9 @@
 //! The command line: what the words ask for.
 
-ghost use Rattle.std.specs.Prelude.{◌≡◌, ◌↔◌, IsTrue, MatchOption, None, Some, slice_index};
-ghost use Rattle.std.specs.Int.{IsInRange};
-ghost use Rattle.session_codec.specs.SessionMap.{user_id_of};
-ghost use Rattle.auth_server.specs.Command.{asked_by, asked_by_command, asked_of, number_of, pipe_of, sign_of, unsign_of};
+ghost use Rattle.std.specs.Prelude.{◌≡◌, MatchOption, None, Some};
+ghost use Rattle.auth_server.specs.Command.{asked_by, asked_by_command, asked_of, pipe_of, sign_of, unsign_of};
 
-use crypto_text::Text;
+use crypto_text::{Text, decimal_decode};
 
 /// What a run is asked for.
 #[derive(Clone, Copy, Debug)]
@@ -75,7 +73,7 @@ fn unsign_of(rest: &[Text]) -> Option<Command<'_>>
     ensures { MatchOption result (unsign_of rest.now ≡ None) (λ command. unsign_of rest.now ≡ Some (asked_by_command command)) }
 {
     match rest {
-        [salt, max_age, text] => match number_of(max_age.as_str()) {
+        [salt, max_age, text] => match decimal_decode(max_age.as_str()) {
             Some(max_age) => Some(Command::UnsignText {
                 salt: salt.as_str(),
                 max_age,
@@ -84,37 +82,5 @@ fn unsign_of(rest: &[Text]) -> Option<Command<'_>>
             None => None,
         },
         _ => None,
-    }
-}
-
-// Without a sign or a leading zero.
-fn number_of(word: &str) -> Option<u64>
-    ensures { result ≡ number_of word.now }
-{
-    if word == "0" {
-        Some(0)
-    } else {
-        positive_number_of(word)
-    }
-}
-
-fn positive_number_of(word: &str) -> Option<u64>
-    ensures { result ≡ user_id_of word.now }
-{
-    if !begins_above_zero(word.as_bytes()) {
-        return None;
-    }
-    match word.parse::<u64>() {
-        Ok(number) => Some(number),
-        Err(_) => None,
-    }
-}
-
-fn begins_above_zero(bytes: &[u8]) -> bool
-    ensures { IsTrue result ↔ IsInRange 49 57 (slice_index bytes.now 0) }
-{
-    match bytes.first() {
-        Some(&byte) => b'1' <= byte && byte <= b'9',
-        None => false,
     }
 }

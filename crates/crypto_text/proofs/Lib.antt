@@ -1,4 +1,5 @@
 pub mod AlphabetLemmas
+pub mod DecimalLemmas
 pub mod DecodeSliceLemmas
 pub mod DerivedKeyLemmas
 pub mod DigestLemmas

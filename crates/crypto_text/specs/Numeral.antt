@@ -1,7 +1,8 @@
--- Numerals in base 62 and base 36, after Django's `baseconv.base62` and `int_to_base36`.
-use Rattle.std.specs.Prelude.{◌≡◌, ℕ, ◌+◌, ◌*◌, ◌^◌, ◌<◌, ◌==◌, if◌then◌else◌, List, [], ◌∷◌, All, Contains, codes, length, map, slice_index}
+-- Numerals in base 62 and base 36, after Django's `baseconv.base62` and `int_to_base36`, and in decimal, after Rust's `Display`.
+use Rattle.std.specs.Prelude.{◌≡◌, ℕ, ◌+◌, ◌*◌, ◌^◌, ◌<◌, ◌==◌, ◌&&◌, nat_lt, if◌then◌else◌, Option, None, Some, List, [], ◌∷◌, All, Contains, bytes_eq, codes, decimal, length, map, slice_index}
 use Rattle.std.specs.Int.Digits.{digits_of}
 use Rattle.std.specs.List.{position_or_len}
+use Rattle.std.specs.Str.Parse.{digits_value}
 use Rattle.crypto_text.specs.declared.numeral.Base.{Base}
 use Rattle.crypto_text.specs.declared.numeral.Base.TheVariants.{Base36, Base62}
 
@@ -40,3 +41,7 @@ numeral_of digits n = if n == 0 then slice_index digits 0 ∷ [] else map (slice
 abbrev pub digits_in : Base → List ℕ
 digits_in Base36 = base36_digits
 digits_in Base62 = base62_digits
+
+-- the number below 2^64 that the text is in decimal, without a sign or a leading zero
+unfoldable pub decimal_of : List ℕ → Option ℕ
+decimal_of text = let n = digits_value 10 text in if nat_lt n (2 ^ 64) && bytes_eq text (decimal n) then Some n else None

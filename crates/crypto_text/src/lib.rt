@@ -30,7 +30,7 @@ pub use crate::hexadecimal::hex_of;
 pub use crate::hmac::{Hmac256, Salted, hmac_sha1, hmac_sha256, salted_hmac};
 pub use crate::ids::Ids;
 pub use crate::md5_digest::md5_hex;
-pub use crate::numeral::{b36_decode, b36_encode, b62_decode, b62_encode};
+pub use crate::numeral::{b36_decode, b36_encode, b62_decode, b62_encode, decimal_decode};
 pub use crate::octets::Bytes;
 pub use crate::pbkdf2::{pbkdf2_sha1, pbkdf2_sha256};
 pub use crate::text::Text;

@@ -1,8 +1,9 @@
-//! Numerals in base 62, as timestamps of signed texts are written, and in base 36, as those of
-//! reset tokens are.
+//! Numerals in base 62, as timestamps of signed texts are written, in base 36, as those of reset
+//! tokens are, and in decimal, as ids and counts are.
 
-ghost use Rattle.std.specs.Prelude.{ℕ, ◌≡◌, ◌+◌, ◌/◌, ◌%◌, ◌^◌, ◌<◌, ◌≤◌, [], ◌∷◌, ◌++◌, ◌↔◌, ◌==◌, IfOk, OnOk, Some, length, position, slice_index, string_bytes};
-ghost use Rattle.crypto_text.specs.Numeral.{IsNumeral, base36_digits, base62_digits, digits_in, numeral_of};
+ghost use Rattle.std.specs.Prelude.{ℕ, ◌≡◌, ◌+◌, ◌/◌, ◌%◌, ◌^◌, ◌<◌, ◌≤◌, [], ◌∷◌, ◌++◌, ◌↔◌, ◌==◌, ◌⊎◌, IfOk, IsTrue, OnOk, Some, decimal, length, position, slice_index, string_bytes};
+ghost use Rattle.std.specs.Int.{IsInRange};
+ghost use Rattle.crypto_text.specs.Numeral.{IsNumeral, base36_digits, base62_digits, decimal_of, digits_in, numeral_of};
 
 #[cfg(test)]
 mod tests;
@@ -44,6 +45,18 @@ pub fn b36_decode(text: &str) -> Option<u64>
         return None;
     }
     decode(Base::Base36, text)
+}
+
+/// Reads a number in decimal: digits without a sign or a leading zero, as `u64`'s `Display`
+/// writes them. Takes no memory.
+pub fn decimal_decode(text: &str) -> Option<u64>
+    ensures value { result ≡ decimal_of text.now }
+    ensures number { (n : ℕ) → (result ≡ Some n) ↔ ((text.now ≡ decimal n) × (n < 2 ^ 64)) }
+{
+    if !begins_as_decimal(text.as_bytes()) {
+        return None;
+    }
+    text.parse::<u64>().ok()
 }
 
 #[derive(Clone, Copy)]
@@ -102,6 +115,16 @@ fn base62_value(byte: u8) -> Option<u64>
         b'A'..=b'Z' => Some(u64::from(byte - b'A') + 10),
         b'a'..=b'z' => Some(u64::from(byte - b'a') + 36),
         _ => None,
+    }
+}
+
+// With a digit, which is a zero only where it stands alone.
+fn begins_as_decimal(bytes: &[u8]) -> bool
+    ensures { IsTrue result ↔ (IsInRange 49 57 (slice_index bytes.now 0) ⊎ (bytes.now ≡ 48 ∷ [])) }
+{
+    match bytes {
+        [b'0'] | [b'1'..=b'9', ..] => true,
+        _ => false,
     }
 }
 

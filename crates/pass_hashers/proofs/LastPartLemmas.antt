@@ -1,12 +1,10 @@
 -- What is decoded with room enough is what was written, and nothing else decodes.
 use Rattle.std.proofs.Common.{◌≡◌, ℕ, ◌<◌, ◌≤◌, Bool, true, false, List, [], Result, Ok, Err, length, get_or, eqb, ltb, replicate, take, arith, refl, sym, ap, ◌∙◌, length-append}
-use Rattle.std.proofs.lemmas.Bool.Decides.{Decides-at, Decides-eqb, Decides-ltb}
+use Rattle.std.proofs.lemmas.Bool.Decides.{Decides-eqb, Decides-ltb}
 use Rattle.std.proofs.lemmas.Bool.{agree_below_at}
 use Rattle.std.proofs.lemmas.Str.Ascii.{IsAscii-from_reads}
 use Rattle.std.proofs.lemmas.List.{length-replicate, take_at}
-use Rattle.std.proofs.lemmas.Slice.Eq.{bytes_eq-Decides}
 use Rattle.std.specs.Bool.{Decides}
-use Rattle.std.specs.Str.{bytes_eq}
 use Rattle.base64.proofs.Decoding.{or_error_ok, slice_result_room}
 use Rattle.base64.proofs.EngineFacts.{decode_of_strict}
 use Rattle.base64.proofs.RoundTrip.{decode-encode, length-encode_symbols}

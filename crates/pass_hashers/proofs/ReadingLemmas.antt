@@ -1,14 +1,14 @@
 -- Reading a password text from its front finds the only parts that it has.
-use Rattle.std.proofs.Common.{◌≡◌, ℕ, suc, ◌+◌, ◌<◌, false, true, eqb, List, [], ◌∷◌, ◌++◌, length, get_or, drop, codes, Result, Ok, arith, refl, sym, ap, ◌∙◌, length-append}
+use Rattle.std.proofs.Common.{◌≡◌, ℕ, suc, ◌+◌, ◌<◌, false, true, eqb, List, [], ◌∷◌, ◌++◌, length, get_or, drop, codes, arith, refl, sym, ap, ◌∙◌, length-append}
 use Rattle.std.proofs.Math.Seq.{get_or-append_seam}
 use Rattle.std.proofs.lemmas.Bool.{agree_below, agree_below_at, false≢true}
-use Rattle.std.proofs.lemmas.Fmt.{decimal-digits_value, decimal_injective, digits_decimal, first_decimal, parse-decimal}
-use Rattle.std.proofs.lemmas.Str.Parse.{IsNumeralModel, not_in_digits, numerals_by_value, parse_digits, tells_by_index}
+use Rattle.std.proofs.lemmas.Fmt.{decimal_injective, digits_decimal}
+use Rattle.std.proofs.lemmas.Str.Parse.{IsNumeralModel, not_in_digits, numerals_by_value, tells_by_index}
 use Rattle.std.specs.Fmt.{decimal}
 use Rattle.std.specs.Int.{IsInRange}
-use Rattle.std.specs.Str.Parse.{ParsesUnsigned, digits_value}
+use Rattle.std.specs.Str.Parse.{digits_value}
 use Rattle.pass_hashers.specs.PasswordText.{AreIterations, HasParts, IsMarkedUnusable, IsSalt, IsUsable, algo_of, dollar, name_of, rest_text}
-use Rattle.pass_hashers.specs.Reading.{HasFront, HasNoDollar, HasRest, IsCut, IsNumberText, front_text}
+use Rattle.pass_hashers.specs.Reading.{HasFront, HasNoDollar, HasRest, IsCut, front_text}
 use Rattle.pass_hashers.specs.declared.hasher.Algo.{Algo}
 use Rattle.pass_hashers.specs.declared.hasher.Algo.TheVariants as algos
 use Rattle.pass_hashers.specs.declared.hasher.Hasher.{Hasher}
@@ -61,22 +61,6 @@ own = numerals_by_value _ tells_by_index
 
 pub HasNoDollar-decimal : (n : ℕ) → AreIterations n → HasNoDollar (decimal n)
 HasNoDollar-decimal n within = not_in_digits own (decimal n) dollar (digits_decimal own n (omega (arith, within.1))) (λ range. omega (arith, range.0))
-
-pub IsNumberText-decimal : (digits : List ℕ) (n : ℕ) → AreIterations n → digits ≡ decimal n → IsNumberText digits
-IsNumberText-decimal digits n within e = rw e (
-  digits_decimal own n (omega (arith, within.1)),
-  λ zero. let above = first_decimal n (omega (arith, within.0)) (omega (arith, within.1)) in omega (arith, zero, above),
-)
-
--- what is parsed is the number whose digits these are
-pub parsed_decimal : {E : Type 0} (digits : List ℕ) (r : Result ℕ E) (n : ℕ) → IsNumberText digits → ParsesUnsigned 32 10 digits r → r ≡ Ok n → digits ≡ decimal n
-parsed_decimal digits r n number parses ok =
-    let read = rw ok at (parse_digits own 32 digits r parses number.0) in
-    let back = decimal-digits_value own digits number.0 read.0.0 (λ zero. absurd (number.1 zero)) (omega (arith, read.0.1)) in
-    sym back ∙ ap decimal (sym read.1)
-
-pub decimal_parsed : {E : Type 0} (digits : List ℕ) (r : Result ℕ E) (n : ℕ) → AreIterations n → digits ≡ decimal n → ParsesUnsigned 32 10 digits r → r ≡ Ok n
-decimal_parsed digits r n within e parses = parse-decimal 32 n digits r (omega (arith, within.1)) (omega (arith, within.1)) e parses
 
 -- ---- whole texts
 

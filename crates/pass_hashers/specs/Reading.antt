@@ -1,7 +1,6 @@
 -- What reading a password text from its front has found so far.
 use Rattle.std.specs.Prelude.{◌≡◌, ◌≢◌, ◌==◌, ℕ, ◌<◌, List, ◌∷◌, ◌++◌, length, slice_index}
 use Rattle.std.specs.Fmt.{decimal}
-use Rattle.std.specs.Int.{IsInRange}
 use Rattle.std.specs.List.{before_first}
 use Rattle.pass_hashers.specs.PasswordText.{IsDigestText, IsSalt, IsUsable, algo_of, dollar, rest_text}
 use Rattle.pass_hashers.specs.declared.hasher.Algo.{Algo}
@@ -19,10 +18,6 @@ IsCut text front rest = (text ≡ front ++ dollar ∷ rest) × HasNoDollar front
 -- the part before the first `$`, or the whole text
 abbrev pub first_part : List ℕ → List ℕ
 first_part text = before_first (λ byte. byte == dollar) text
-
--- digits, the first of them no 0
-abbrev pub IsNumberText : List ℕ → Type 0
-IsNumberText text = ((i : ℕ) → i < length text → IsInRange 48 57 (slice_index text i)) × (slice_index text 0 ≢ 48)
 
 -- what follows the name, where `behind` follows the iterations
 abbrev pub front_text : Hasher → List ℕ → List ℕ

@@ -1,13 +1,13 @@
 //! Reads password texts from the front, part by part. Nothing here takes memory.
 
-ghost use Rattle.std.specs.Prelude.{◌≡◌, ◌≢◌, ◌↔◌, ◌≤◌, ℕ, List, ◌∷◌, ◌++◌, All, length, slice_index, IsTrue, IsNone, IfOk, IfSome, MatchOption, IsErr, IsErrOf, ◌<◌};
+ghost use Rattle.std.specs.Prelude.{◌≡◌, ◌≢◌, ◌↔◌, ◌≤◌, ℕ, List, ◌∷◌, ◌++◌, All, IsTrue, IsNone, IfOk, IfSome, MatchOption, IsErr, IsErrOf};
 ghost use Rattle.std.specs.Fmt.{decimal};
-ghost use Rattle.std.specs.Int.{IsInRange};
 ghost use Rattle.pass_hashers.specs.PasswordText.{AreIterations, HasKnownName, HasParts, IsDigestText, IsMarkedUnusable, IsSalt, IsSaltByte, IsTextOf, algo_of, dollar, name_of};
-ghost use Rattle.pass_hashers.specs.Reading.{HasFront, HasNoDollar, HasRest, HasSalted, IsCut, IsNumberText, first_part};
+ghost use Rattle.pass_hashers.specs.Reading.{HasFront, HasNoDollar, HasRest, HasSalted, IsCut, first_part};
 
 use crate::hasher::{Algo, HashFault, Hasher, algo_of, are_iterations};
 use crate::last_part::is_digest_text;
+use crypto_text::decimal_decode;
 
 /// A text that a hasher made, in parts.
 #[derive(Clone, Copy)]
@@ -123,45 +123,17 @@ fn iterations_before(rest: &str) -> Option<(u32, &str)>
     Some((iterations, behind))
 }
 
-// A number without a leading zero.
 fn iterations_of(digits: &str) -> Option<u32>
     ensures found { IfSome result (λ iterations. AreIterations iterations × (digits.now ≡ decimal iterations)) }
     ensures none { IsNone result → (iterations : ℕ) → AreIterations iterations → digits.now ≢ decimal iterations }
 {
-    if !is_number_text(digits) {
-        return None;
+    let number = decimal_decode(digits)?;
+    let iterations = u32::try_from(number).ok()?;
+    if are_iterations(iterations) {
+        Some(iterations)
+    } else {
+        None
     }
-    match digits.parse::<u32>() {
-        Ok(iterations) => {
-            if are_iterations(iterations) {
-                Some(iterations)
-            } else {
-                None
-            }
-        }
-        Err(_) => None,
-    }
-}
-
-fn is_number_text(text: &str) -> bool
-    ensures { IsTrue result ↔ IsNumberText text.now }
-{
-    are_digits(text.as_bytes()) && !begins_with_zero(text.as_bytes())
-}
-
-fn begins_with_zero(bytes: &[u8]) -> bool
-    ensures { IsTrue result ↔ (slice_index bytes.now 0 ≡ 48) }
-{
-    match bytes.first() {
-        Some(&byte) => byte == b'0',
-        None => false,
-    }
-}
-
-fn are_digits(bytes: &[u8]) -> bool
-    ensures { IsTrue result ↔ ((i : ℕ) → i < length bytes.now → IsInRange 48 57 (slice_index bytes.now i)) }
-{
-    bytes.iter().all(|byte| byte.is_ascii_digit())
 }
 
 fn salted_parts(hasher: Hasher, rest: &str) -> Option<Parts<'_>>

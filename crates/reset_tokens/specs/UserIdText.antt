@@ -1,7 +1,6 @@
 -- User ids in reset links, as Django 4.2 writes them: `urlsafe_base64_encode(force_bytes(user.pk))`.
-use Rattle.std.specs.Prelude.{◌≡◌, ◌≢◌, ℕ, ◌^◌, ◌<◌, ◌≤◌, List, length, slice_index}
+use Rattle.std.specs.Prelude.{◌≡◌, ℕ, ◌^◌, ◌<◌, ◌≤◌, List}
 use Rattle.std.specs.Fmt.{decimal}
-use Rattle.std.specs.Int.{IsInRange}
 use Rattle.crypto_text.specs.Rfc4648.{base64url}
 
 -- a number that can be a user's id: 1 to 2^64 - 1
@@ -15,7 +14,3 @@ uid_text id = base64url (decimal id)
 -- the text is the one of this id
 abbrev pub IsUidText : List ℕ → ℕ → Type 0
 IsUidText text id = IsUserId id × (text ≡ uid_text id)
-
--- digits, the first of them no 0; for private clauses
-abbrev pub IsNumberText : List ℕ → Type 0
-IsNumberText text = ((i : ℕ) → i < length text → IsInRange 48 57 (slice_index text i)) × (slice_index text 0 ≢ 48)

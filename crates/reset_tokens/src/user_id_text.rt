@@ -1,12 +1,11 @@
 //! User ids as they stand in reset links.
 
-ghost use Rattle.std.specs.Prelude.{◌≡◌, ◌↔◌, ◌<◌, ◌≤◌, ℕ, IfOk, IsTrue, Some, length, slice_index};
+ghost use Rattle.std.specs.Prelude.{◌≡◌, ◌↔◌, ℕ, IfOk, Some};
 ghost use Rattle.std.specs.Fmt.{decimal};
-ghost use Rattle.std.specs.Int.{IsInRange};
 ghost use Rattle.crypto_text.specs.Rfc4648.{IsBytes};
-ghost use Rattle.reset_tokens.specs.UserIdText.{IsNumberText, IsUidText, IsUserId, uid_text};
+ghost use Rattle.reset_tokens.specs.UserIdText.{IsUidText, IsUserId, uid_text};
 
-use crypto_text::{Text, b64url_decode_slice, b64url_encode};
+use crypto_text::{Text, b64url_decode_slice, b64url_encode, decimal_decode};
 use std::alloc::{AllocError, Global};
 use std::str;
 
@@ -33,33 +32,11 @@ fn id_of(digits: &[u8]) -> Option<u64>
     ensures bytes { IsBytes digits.now }
     ensures id { (id : ℕ) → (result ≡ Some id) ↔ (IsUserId id × (digits.now ≡ decimal id)) }
 {
-    if !are_digits(digits) || begins_with_zero(digits) {
+    let Ok(text) = str::from_utf8(digits) else {
         return None;
-    }
-    number_of(digits)
-}
-
-fn number_of(digits: &[u8]) -> Option<u64>
-    requires { IsNumberText digits.now }
-    ensures { (id : ℕ) → (result ≡ Some id) ↔ (IsUserId id × (digits.now ≡ decimal id)) }
-{
-    match str::from_utf8(digits) {
-        Ok(text) => text.parse::<u64>().ok(),
-        Err(_) => unreachable!(),
-    }
-}
-
-fn are_digits(bytes: &[u8]) -> bool
-    ensures { IsTrue result ↔ ((i : ℕ) → i < length bytes.now → IsInRange 48 57 (slice_index bytes.now i)) }
-{
-    bytes.iter().all(|byte| byte.is_ascii_digit())
-}
-
-fn begins_with_zero(bytes: &[u8]) -> bool
-    ensures { IsTrue result ↔ (slice_index bytes.now 0 ≡ 48) }
-{
-    match bytes.first() {
-        Some(&byte) => byte == b'0',
-        None => false,
+    };
+    match decimal_decode(text) {
+        Some(0) | None => None,
+        Some(id) => Some(id),
     }
 }

@@ -1,8 +1,8 @@
 -- Session maps, and the names that Django 4.2's `django.contrib.auth` and `SessionBase` put into them.
-use Rattle.std.specs.Prelude.{ℕ, ◌^◌, ◌==◌, ◌&&◌, min, List, [], false, true, nat_lt, if◌then◌else◌, Option, None, Some, bytes_eq, codes, decimal, option_and_then, option_map, unwrap_or}
+use Rattle.std.specs.Prelude.{ℕ, ◌==◌, min, List, [], false, true, if◌then◌else◌, Option, None, Some, codes, decimal, option_and_then, option_map, unwrap_or}
 use Rattle.std.specs.Ordering.{match_ordering, nat_cmp}
 use Rattle.std.specs.Cmp.Lexicographic.{slice_cmp}
-use Rattle.std.specs.Str.Parse.{digits_value}
+use Rattle.crypto_text.specs.Numeral.{decimal_of}
 use Rattle.serde_json.specs.Data.{Data, string, object, Members, no_members, member}
 use Rattle.serde_json.specs.Find.{as_number, as_str, as_u64, get_member}
 use Rattle.ascii_json.specs.Profile.{FitsWithin, IsProfile}
@@ -45,8 +45,7 @@ pub record SessionAuth : Type 0 where
 
 -- the number from 1 to 2^64 - 1 whose decimal digits, without leading zero, the text is
 unfoldable pub user_id_of : List ℕ → Option ℕ
-user_id_of text =
-    let n = digits_value 10 text in if nat_lt 0 n && nat_lt n (2 ^ 64) && bytes_eq text (decimal n) then Some n else None
+user_id_of text = option_and_then (λ n. if n == 0 then None else Some n) (decimal_of text)
 
 -- the login of a map: none without a user's id or without a backend; a hash that is missing is empty
 unfoldable pub auth_of : Members → Option SessionAuth

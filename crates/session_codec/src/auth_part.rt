@@ -1,11 +1,11 @@
 //! Who is logged in, as a session map says it.
 
-ghost use Rattle.std.specs.Prelude.{◌≡◌, ◌↔◌, [], IfOk, IsTrue, MatchOption, None, OnOk, Some, option_and_then, option_map, slice_index, unwrap_or};
-ghost use Rattle.std.specs.Int.{IsInRange};
+ghost use Rattle.std.specs.Prelude.{◌≡◌, [], IfOk, MatchOption, None, OnOk, Some, option_and_then, option_map, unwrap_or};
 ghost use Rattle.serde_json.specs.Data.{put, string};
 ghost use Rattle.session_codec.specs.SessionMap.{auth_members, auth_of, backend_name, hash_name, text_at, user_id_name, user_id_of};
 
 use crate::session_map::SessionMap;
+use crypto_text::decimal_decode;
 use serde_json::Value;
 use std::alloc::{AllocError, Global};
 
@@ -98,25 +98,13 @@ fn hash_of(map: &SessionMap) -> &str
     }
 }
 
-// Digits without a sign or a leading zero.
+#[tactic(auto, unfolding(crate::specs::SessionMap::user_id_of))]
 fn user_id(text: &str) -> Option<u64>
     ensures { result ≡ user_id_of text.now }
 {
-    if !begins_above_zero(text.as_bytes()) {
-        return None;
-    }
-    match text.parse::<u64>() {
-        Ok(user) => Some(user),
-        Err(_) => None,
-    }
-}
-
-fn begins_above_zero(bytes: &[u8]) -> bool
-    ensures { IsTrue result ↔ IsInRange 49 57 (slice_index bytes.now 0) }
-{
-    match bytes.first() {
-        Some(&byte) => b'1' <= byte && byte <= b'9',
-        None => false,
+    match decimal_decode(text) {
+        Some(0) | None => None,
+        Some(user) => Some(user),
     }
 }
 

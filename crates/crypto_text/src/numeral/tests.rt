@@ -50,3 +50,13 @@ fn leading_zeros_are_read(rt: HostRuntime) {
     assert_eq!(rt; b62_decode("000000000000000z"), Some(61));
     assert_eq!(rt; b36_decode("000000000001p"), Some(61));
 }
+
+#[test]
+fn decimal_numbers_are_read(rt: HostRuntime) {
+    for (text, n) in [("0", 0), ("7", 7), ("18446744073709551615", u64::MAX)] {
+        assert_eq!(rt; decimal_decode(text), Some(n), "{text}");
+    }
+    for text in ["", "00", "01", "+1", "18446744073709551616", "1a"] {
+        assert_eq!(rt; decimal_decode(text), None, "{text}");
+    }
+}
