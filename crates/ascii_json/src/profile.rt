@@ -9,8 +9,7 @@ use serde_json::{Map, Value};
 
 const MOST_NESTED: usize = 100;
 
-/// Whether a value has no float and is nested at most 100 deep. A number beyond 64 bits, and `-0`,
-/// were read as floats.
+/// Whether a value has no float and is nested at most 100 deep.
 pub fn is_profile(value: &Value) -> bool
     ensures profile { IsTrue result ↔ IsProfile (view value.now) }
     ensures representable { IsTrue result → IsRepresentable (view value.now) }
@@ -18,8 +17,10 @@ pub fn is_profile(value: &Value) -> bool
     fits_within(value, MOST_NESTED)
 }
 
+/// Whether a value has no float and is nested at most so deep: a plain value has depth 0, and each list or
+/// object adds 1. A number beyond 64 bits, and `-0`, were read as floats.
 #[cycle(fits)]
-fn fits_within(value: &Value, most: usize) -> bool
+pub fn fits_within(value: &Value, most: usize) -> bool
     ensures fits { IsTrue result ↔ FitsWithin most (view value.now) }
     ensures representable { IsTrue result → IsRepresentable (view value.now) }
 {

@@ -1,5 +1,5 @@
 -- What one worker does with its devices and its store, for one request. This project's own.
-use Rattle.std.specs.Prelude.{◌≡◌, ◌≤◌, ◌+◌, ◌^◌, ◌⊎◌, ◌↔◌, ℕ, Bool, List, [], ◌∷◌, Option, Some, None, is_some, Result, IfOk, OnOk, OnErr, IsErrOf}
+use Rattle.std.specs.Prelude.{◌≡◌, ◌≤◌, ◌+◌, ◌^◌, ◌⊎◌, ◌↔◌, ℕ, Bool, List, [], ◌∷◌, Option, Some, None, is_some, Result, Ok, Err, IfOk, OnOk, OnErr, IsErrOf}
 use Rattle.outside.specs.Faults.{Rose}
 use Rattle.outside.specs.Clock.{GivesNext, moment}
 use Rattle.outside.specs.RandomWords.{place_after}
@@ -17,7 +17,7 @@ use Rattle.auth_server.specs.Page.{is_head, page_of}
 use Rattle.auth_server.specs.declared.handler.Begun.{Begun}
 use Rattle.auth_server.specs.declared.handler.Begun.TheVariants.{Answer, Asks}
 use Rattle.session_engines.specs.declared.ledger.StepFault.{StepFault}
-use Rattle.session_engines.specs.declared.ledger.StepFault.TheVariants.{Keeper, Full}
+use Rattle.session_engines.specs.declared.ledger.StepFault.TheVariants.{Keeper, Full, Memory}
 
 -- what the input reports: the bytes that it has left, where it tells, and its count of faults
 pub record Input : Type 0 where
@@ -60,8 +60,8 @@ pub record Server : Type 0 where
 abbrev pub load_entry : Server → ℕ → Option (List ℕ) → ℕ → Entry
 load_entry server number cookie now = record { tag = record { boot = server.boot; worker = server.worker; request = number; step = 0 }; op = Load cookie now }
 
--- the store wasn't asked
-pub record IsUnasked (before after : Store) : Type 0 where
+-- what is held is as before; only the count of faults may have risen
+pub record IsUnchanged (before after : Store) : Type 0 where
   pub report : after.report ≡ before.report
   pub entry_count : after.entry_count ≡ before.entry_count
 
@@ -71,22 +71,30 @@ pub record IsLoaded (cfg : Cfg) (entry : Entry) (before after : Store) (outcome 
   pub reply : IfOk outcome (λ reply. OnHolding before.report (λ contents. reply ≡ reply_to cfg entry.op contents.tables))
   pub entered : OnOk outcome (after.report ≡ stepped cfg.engine entry before.report)
   pub longer : OnOk outcome (after.entry_count ≡ before.entry_count + 1)
-  pub refused : OnErr outcome (IsUnasked before after)
+  pub refused : OnErr outcome (IsUnchanged before after)
   pub full : IsErrOf outcome Full ↔ (2 ^ 62 ≤ before.entry_count)
   pub failed : (earlier later : ℕ) → IsErrOf outcome (Keeper earlier later) → Rose before.faults after.faults
+  pub count : before.faults ≤ after.faults
+
+-- how many loads the store failed in: this one, or none
+abbrev pub failures_in : Result Reply StepFault → ℕ
+failures_in (Ok reply) = 0
+failures_in (Err (Keeper earlier later)) = 1
+failures_in (Err Full) = 0
+failures_in (Err Memory) = 0
 
 -- the answer is this page, or memory was wanting
 abbrev pub IsPage : Option Response → Option Response → Type 0
 IsPage page answer = (answer ≡ page) ⊎ (answer ≡ None)
 
--- the answer to a request, by what came first of it: a refusal asks for no step, and else one load is done; memory
+-- the answer to a request, by what came first of it: a refusal doesn't ask the store, and else one load is done; memory
 -- may be wanting before it and after it
-abbrev pub IsAnswer : Server → ℕ → Bool → Bool → ℕ → Begun → Store → Store → Option Response → Type 0
-IsAnswer server number keep head_only now (Answer page) before after answer = IsUnasked before after × IsPage (Some page) answer
-IsAnswer server number keep head_only now (Asks cookie) before after answer =
-    (IsUnasked before after × (answer ≡ None))
+abbrev pub IsAnswer : Server → ℕ → Bool → Bool → ℕ → Begun → Store → Store → ℕ → Option Response → Type 0
+IsAnswer server number keep head_only now (Answer page) before after failures answer = (after ≡ before) × (failures ≡ 0) × IsPage (Some page) answer
+IsAnswer server number keep head_only now (Asks cookie) before after failures answer =
+    ((after ≡ before) × (failures ≡ 0) × (answer ≡ None))
     ⊎ ((outcome : Result Reply StepFault) × IsLoaded server.cfg (load_entry server number cookie now) before after outcome
-    × IsPage (page_of (is_some cookie) keep head_only outcome) answer)
+    × (failures ≡ failures_in outcome) × IsPage (page_of (is_some cookie) keep head_only outcome) answer)
 
 -- one request was answered, or memory was wanting for its answer: one reading of the clock and the words of one
 -- request were taken, and the answer is the one of the request and of its load
@@ -95,4 +103,6 @@ pub record IsExchange (server : Server) (number : ℕ) (keep : Bool) (r : Reques
   pub moment_is : now ≡ moment reading
   pub clock : GivesNext before.readings after.readings (reading ∷ [])
   pub words : after.place ≡ place_after before.place 1024
-  pub answered : IsAnswer server number keep (is_head r.method) now (begun_of server.hosts keep r) before.store after.store answer
+  -- how many of its loads the store failed in
+  pub failures : ℕ
+  pub answered : IsAnswer server number keep (is_head r.method) now (begun_of server.hosts keep r) before.store after.store failures answer

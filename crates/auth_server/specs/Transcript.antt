@@ -1,7 +1,7 @@
 -- A connection: what is read of it, what is written to it, and what is done between. What is written is the transcript
 -- of the connection's bytes: the responses to its requests, in their order, with the replies of the store at the places
 -- of their entries. This project's own; the framing is that of RFC 9112.
-use Rattle.std.specs.Prelude.{◌≡◌, ◌≤◌, ◌+◌, ◌⊎◌, ℕ, zero, suc, Bool, ◌&&◌, nat_lt, if◌then◌else◌, List, [], ◌∷◌, ◌++◌, length, Option, Some, None, IfSome, Result, Ok, Err, IsErrOf}
+use Rattle.std.specs.Prelude.{◌≡◌, ◌≤◌, ◌+◌, ◌-◌, ◌^◌, ◌⊎◌, ℕ, min, zero, suc, Bool, ◌&&◌, nat_lt, if◌then◌else◌, List, [], ◌∷◌, ◌++◌, length, Option, Some, None, IfSome, Result, Ok, Err, IsErrOf}
 use Rattle.outside.specs.Bytes.{Appends, told_before}
 use Rattle.outside.specs.Faults.{Rose}
 use Rattle.http_edge.specs.Reader.{IsFramingOf}
@@ -55,51 +55,70 @@ pub record IsSilent (before after : Seen) : Type 0 where
   pub output : after.output ≡ before.output
   pub inside : after.inside ≡ before.inside
 
--- what was done with the next of what was left: nothing more, where nothing was left or it couldn't be read; the
--- answer to a fault of its bytes; or an exchange and its answer. After the last request the connection isn't kept
-abbrev pub IsServed : Server → ℕ → Bool → Result (Option Request) EdgeFault → Seen → Seen → Round → Type 0
-IsServed server number more (Ok None) before after round = IsSilent before after × (round ≡ record { moment = None; end = Some Closed })
-IsServed server number more (Ok (Some r)) before after round =
+-- what is said to a fault of the bytes: a failed read isn't answered, and ends the connection
+abbrev pub IsRefusedRound : EdgeFault → Output → Output → Round → Type 0
+IsRefusedRound Unread before after round = (after ≡ before) × (round ≡ record { moment = None; end = Some ReadFault })
+IsRefusedRound fault before after round = (round.moment ≡ None) × IsSaid (fault_page fault) before after round.end
+
+-- what was done with the next of what was left: nothing more, where nothing was left; an exchange and its answer, where a
+-- request was; or what is said to a fault. After the last request the connection isn't kept. The store failed in so
+-- many loads
+abbrev pub IsServed : Server → ℕ → Bool → Result (Option Request) EdgeFault → Seen → Seen → Round → ℕ → Type 0
+IsServed server number more (Ok None) before after round failures =
+    IsSilent before after × (failures ≡ 0) × (round ≡ record { moment = None; end = Some Closed })
+IsServed server number more (Ok (Some r)) before after round failures =
     (now : ℕ) × (answer : Option Response) × (round.moment ≡ Some now)
-    × IsExchange server number (r.keep && more) r before.inside after.inside now answer
+    × ((exchange : IsExchange server number (r.keep && more) r before.inside after.inside now answer) × (failures ≡ exchange.failures))
     × IsSaid answer before.output after.output round.end
-IsServed server number more (Err Unread) before after round = IsSilent before after × (round ≡ record { moment = None; end = Some ReadFault })
-IsServed server number more (Err fault) before after round =
-    (round.moment ≡ None) × (after.inside ≡ before.inside) × IsSaid (fault_page fault) before.output after.output round.end
+IsServed server number more (Err fault) before after round failures =
+    (after.inside ≡ before.inside) × (failures ≡ 0) × IsRefusedRound fault before.output after.output round
 
 -- one round of a connection
 pub record IsRound (server : Server) (number : ℕ) (more : Bool) (kept : List ℕ) (before : Seen) (kept_now : List ℕ) (after : Seen) (round : Round) : Type 0 where
   pub got : Result (Option Request) EdgeFault
   pub read : IsRead kept before.input kept_now after.input got
-  pub served : IsServed server number more got before after round
+  -- how many loads the store failed in
+  pub failures : ℕ
+  pub served : IsServed server number more got before after round failures
 
 -- the moment of a round's request, where there was one
 abbrev pub moments_of : Option ℕ → List ℕ
 moments_of None = []
 moments_of (Some now) = now ∷ []
 
--- behind a round the connection has ended so, with the moments that it gave, or it goes on
-abbrev pub GoesOn : Option End → List ℕ → Seen → Seen → List ℕ → End → (List ℕ → Type 0) → Type 0
-GoesOn (Some last) given now after moments end rest = (end ≡ last) × (moments ≡ given) × (after ≡ now)
-GoesOn None given now after moments end rest = (later : List ℕ) × (moments ≡ given ++ later) × rest later
+-- behind a round the connection has ended so, with the moments and the failures that it gave, or it goes on
+abbrev pub GoesOn : Option End → List ℕ → ℕ → Seen → Seen → List ℕ → ℕ → End → (List ℕ → ℕ → Type 0) → Type 0
+GoesOn (Some last) given failed now after moments failures end rest = (end ≡ last) × (moments ≡ given) × (failures ≡ failed) × (after ≡ now)
+GoesOn None given failed now after moments failures end rest =
+    (later : List ℕ) × (more : ℕ) × (moments ≡ given ++ later) × (failures ≡ failed + more) × rest later more
 
 -- a connection from here on, for so many requests at most: one round after another, until one ends it. The requests are
--- numbered on, and the moments are those of the requests that were read whole
-unfoldable pub IsTranscript : ℕ → Server → ℕ → List ℕ → Seen → Seen → List ℕ → End → Type 0
-IsTranscript zero server number kept before after moments end = (end ≡ Closed) × (moments ≡ []) × (after ≡ before)
-IsTranscript (suc left) server number kept before after moments end =
-    (round : Round) × (kept_now : List ℕ) × (now : Seen) × IsRound server number (nat_lt 0 left) kept before kept_now now round
-    × GoesOn round.end (moments_of round.moment) now after moments end (λ later. IsTranscript left server (number + 1) kept_now now after later end)
+-- numbered on, the moments are those of the requests that were read whole, and the store failed in so many loads
+unfoldable pub IsTranscript : ℕ → Server → ℕ → List ℕ → Seen → Seen → List ℕ → ℕ → End → Type 0
+IsTranscript zero server number kept before after moments failures end = (end ≡ Closed) × (moments ≡ []) × (failures ≡ 0) × (after ≡ before)
+IsTranscript (suc left) server number kept before after moments failures end =
+    (round : Round) × (kept_now : List ℕ) × (now : Seen) × (one : IsRound server number (nat_lt 0 left) kept before kept_now now round)
+    × GoesOn round.end (moments_of round.moment) one.failures now after moments failures end
+    (λ later more. IsTranscript left server (number + 1) kept_now now after later more end)
 
 -- memory was wanting before anything was read
-pub record IsUnbegun (before after : Seen) (moments : List ℕ) (end : End) : Type 0 where
+pub record IsUnbegun (before after : Seen) (moments : List ℕ) (failures : ℕ) (end : End) : Type 0 where
   pub end_is : end ≡ Memory
   pub moments_are : moments ≡ []
+  pub no_failure : failures ≡ 0
   pub same : after ≡ before
+
+-- the count is greater by at least so many faults, or stands at its greatest value
+abbrev pub RoseBy : ℕ → ℕ → ℕ → Type 0
+RoseBy faults before now = min (before + faults) (2 ^ 64 - 1) ≤ now
 
 -- a whole connection of at most 1,000 requests, the first of which has this number
 pub record Serves (server : Server) (first : ℕ) (before after : Seen) (report : Report) : Type 0 where
-  pub transcript : IsTranscript 1000 server first [] before after report.moments report.end ⊎ IsUnbegun before after report.moments report.end
+  -- how many loads the store failed in; each was answered 503 `error=store`, or for want of memory
+  pub failures : ℕ
+  pub transcript : IsTranscript 1000 server first [] before after report.moments failures report.end
+      ⊎ IsUnbegun before after report.moments failures report.end
   pub requests : report.requests ≡ length report.moments
   pub read_fault : report.end ≡ ReadFault → Rose before.input.faults after.input.faults
   pub write_fault : report.end ≡ WriteFault → Rose before.output.faults after.output.faults
+  pub store_faults : RoseBy failures before.inside.store.faults after.inside.store.faults

@@ -6,13 +6,13 @@ ghost use Rattle.http_edge.specs.ResponseText.{IsStatus};
 ghost use Rattle.session_engines.specs.Ledger.{KeepsHistory};
 ghost use Rattle.auth_server.specs.OneWorker.{Input, Inside, Output, Seen, Server, Store};
 ghost use Rattle.auth_server.specs.Page.{fault_page};
-ghost use Rattle.auth_server.specs.Transcript.{IsRound, IsSaid, Serves, moments_of};
+ghost use Rattle.auth_server.specs.Transcript.{IsRead, IsRefusedRound, IsRound, Serves, moments_of};
 
 use crate::exchange::{Exchange, Place, serve_request};
 use crate::output::say;
 use crate::page::fault_page;
 use crypto_text::{Ids, TextList};
-use http_edge::{EdgeFault, Reader, read_request};
+use http_edge::{EdgeFault, Reader, Request, read_request};
 use keepers::Keeper;
 use outside::{Clock, Sink, Source, Words};
 use session_engines::Ledger;
@@ -156,19 +156,31 @@ fn serve_next<K: Keeper, I: Source, O: Sink, C: Clock, W: Words>(
     ensures same { (ledger.new.cfg ≡ ledger.old.cfg) × (ledger.new.boot ≡ ledger.old.boot) }
     ensures history { KeepsHistory (K.report ledger.old.keeper) (K.report ledger.new.keeper) }
 {
-    let request = match read_request(alloc, reader, input) {
-        Ok(Some(request)) => request,
-        Ok(None) => return over(End::Closed),
-        Err(EdgeFault::ReadFault) => return over(End::ReadFault),
-        Err(fault) => return refuse(alloc, output, fault),
-    };
-    let Exchange { moment, answer } = serve_request(
-        alloc, ledger, hosts, place, &request, clock, words,
-    );
-    Round {
-        moment: Some(moment),
-        end: say(alloc, output, answer.as_ref()),
+    match read_next(alloc, reader, input) {
+        Ok(Some(request)) => {
+            let Exchange { moment, answer } = serve_request(
+                alloc, ledger, hosts, place, &request, clock, words,
+            );
+            Round {
+                moment: Some(moment),
+                end: say(alloc, output, answer.as_ref()),
+            }
+        }
+        Ok(None) => over(End::Closed),
+        Err(fault) => refuse(alloc, output, fault),
     }
+}
+
+fn read_next<I: Source>(
+    alloc: Global,
+    reader: &mut Reader,
+    input: &mut I,
+) -> Result<Option<Request>, EdgeFault>
+    ensures { let before : Input = record { left = I.left input.old; faults = I.read_faults input.old } in
+        let after : Input = record { left = I.left input.new; faults = I.read_faults input.new } in
+        IsRead reader.old before reader.new after result }
+{
+    read_request(alloc, reader, input)
 }
 
 fn over(end: End) -> Round
@@ -180,12 +192,15 @@ fn over(end: End) -> Round
     }
 }
 
+// A failed read isn't answered.
 fn refuse<O: Sink>(alloc: Global, output: &mut O, fault: EdgeFault) -> Round
-    ensures said { let before : Output = record { written = O.written output.old; faults = O.write_faults output.old } in
+    ensures { let before : Output = record { written = O.written output.old; faults = O.write_faults output.old } in
         let after : Output = record { written = O.written output.new; faults = O.write_faults output.new } in
-        IsSaid (fault_page fault) before after result.end }
-    ensures moment { result.moment ≡ None }
+        IsRefusedRound fault before after result }
 {
+    if let EdgeFault::ReadFault = fault {
+        return over(End::ReadFault);
+    }
     let page = fault_page(alloc, fault).ok();
     Round {
         moment: None,

@@ -1,6 +1,6 @@
 //! One request: its moment, its words, its load and its answer.
 
-ghost use Rattle.std.specs.Prelude.{◌≡◌, ◌&&◌, ℕ, [], IfOk, IfSome};
+ghost use Rattle.std.specs.Prelude.{◌≡◌, ◌&&◌, ℕ, List, [], IfOk, IfSome};
 ghost use Rattle.std.specs.Result.{result_ok};
 ghost use Rattle.http_edge.specs.ResponseText.{IsStatus};
 ghost use Rattle.ledger_rows.specs.Step.{IsMoment};
@@ -8,6 +8,7 @@ ghost use Rattle.auth_server.specs.Handler.{begun_of};
 ghost use Rattle.session_engines.specs.Ledger.{KeepsHistory};
 ghost use Rattle.auth_server.specs.OneWorker.{Inside, IsAnswer, IsExchange, IsLoaded, Server, Store, load_entry};
 ghost use Rattle.auth_server.specs.Page.{is_head};
+ghost use Rattle.auth_server.specs.declared.handler.Begun.TheVariants.{Asks};
 
 use crate::handler::{Begun, begin};
 use crate::page::{is_head, outcome_page};
@@ -58,7 +59,8 @@ pub fn serve_request<K: Keeper, C: Clock, W: Words>(
 {
     let moment = moment_of(clock.now());
     let _drawn = draw_request(words);
-    let answer = answer(alloc, ledger, hosts, place, request, moment);
+    let keep = request.keep && place.more;
+    let answer = answer(alloc, ledger, hosts.items(), place, keep, request, moment);
     Exchange {
         moment,
         answer: answer.ok(),
@@ -69,8 +71,9 @@ pub fn serve_request<K: Keeper, C: Clock, W: Words>(
 fn answer<K: Keeper>(
     alloc: Global,
     ledger: &mut Ledger<K>,
-    hosts: &TextList,
+    hosts: &[Text],
     place: Place,
+    keep: bool,
     request: &Request,
     now: u64,
 ) -> Result<Response, AllocError>
@@ -78,20 +81,42 @@ fn answer<K: Keeper>(
     ensures answer { let before : Store = record { report = K.report ledger.old.keeper; entry_count = K.entry_count ledger.old.keeper; faults = K.faults ledger.old.keeper } in
         let after : Store = record { report = K.report ledger.new.keeper; entry_count = K.entry_count ledger.new.keeper; faults = K.faults ledger.new.keeper } in
         let server : Server = record { cfg = ledger.old.cfg; hosts = hosts.now; boot = ledger.old.boot; worker = place.worker } in
-        IsAnswer server place.number (request.now.keep && place.more) (is_head request.now.method) now (begun_of hosts.now (request.now.keep && place.more) request.now) before after (result_ok result) }
+        (failures : ℕ) × IsAnswer server place.number keep (is_head request.now.method) now (begun_of hosts.now keep request.now) before after failures (result_ok result) }
     ensures status { IfOk result (λ page. IsStatus page.status) }
     ensures same { (ledger.new.cfg ≡ ledger.old.cfg) × (ledger.new.boot ≡ ledger.old.boot) }
     ensures history { KeepsHistory (K.report ledger.old.keeper) (K.report ledger.new.keeper) }
 {
-    let keep = request.keep && place.more;
-    match begin(alloc, hosts.items(), keep, request)? {
+    match begin(alloc, hosts, keep, request)? {
         Begun::Answer(page) => Ok(page),
         Begun::Asks(cookie) => {
-            let came = cookie.is_some();
-            let outcome = load(alloc, ledger, place, cookie, now);
-            outcome_page(alloc, came, keep, is_head(request.method), &outcome)
+            let head_only = is_head(request.method);
+            asked(alloc, ledger, place, cookie, keep, head_only, now)
         }
     }
+}
+
+// What asks is answered by what the store says of its cookie.
+fn asked<K: Keeper>(
+    alloc: Global,
+    ledger: &mut Ledger<K>,
+    place: Place,
+    cookie: Option<Text>,
+    keep: bool,
+    head_only: bool,
+    now: u64,
+) -> Result<Response, AllocError>
+    requires { IsMoment now }
+    ensures answer { let before : Store = record { report = K.report ledger.old.keeper; entry_count = K.entry_count ledger.old.keeper; faults = K.faults ledger.old.keeper } in
+        let after : Store = record { report = K.report ledger.new.keeper; entry_count = K.entry_count ledger.new.keeper; faults = K.faults ledger.new.keeper } in
+        (hosts : List (List ℕ)) → let server : Server = record { cfg = ledger.old.cfg; hosts = hosts; boot = ledger.old.boot; worker = place.worker } in
+        (failures : ℕ) × IsAnswer server place.number keep head_only now (Asks cookie) before after failures (result_ok result) }
+    ensures status { IfOk result (λ page. IsStatus page.status) }
+    ensures same { (ledger.new.cfg ≡ ledger.old.cfg) × (ledger.new.boot ≡ ledger.old.boot) }
+    ensures history { KeepsHistory (K.report ledger.old.keeper) (K.report ledger.new.keeper) }
+{
+    let came = cookie.is_some();
+    let outcome = load(alloc, ledger, place, cookie, now);
+    outcome_page(alloc, came, keep, head_only, &outcome)
 }
 
 fn load<K: Keeper>(

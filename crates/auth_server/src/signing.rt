@@ -11,7 +11,7 @@ ghost use Rattle.auth_server.specs.declared.status.Status.{Status as StatusSpec}
 use crate::output::send;
 use crate::status::Status;
 use outside::{Clock, Sink, moment_of};
-use signing_core::{Keys, Signer, TimedFault};
+use signing_core::{Keys, Signer, TimedFault, current_value};
 use std::alloc::{AllocError, Global};
 
 /// A line and the status that a run ends with once it is written.
@@ -101,26 +101,6 @@ fn unsigned(
             line: refused_line(alloc, code_of(fault))?,
             end: Status::Refused,
         }),
-    }
-}
-
-fn current_value<'t>(
-    keys: &Keys,
-    prefix: &str,
-    salt: &str,
-    text: &'t str,
-    now: u64,
-    max_age: Option<u64>,
-) -> Result<&'t str, TimedFault>
-    ensures value { (value : List ℕ) → IsOkAnd result (λ answer. answer.now ≡ value)
-        ↔ IsCurrent text.now value prefix.now salt.now keys.now now max_age }
-    ensures faults { (fault : TimedFault) → IsErrOf result fault
-        ↔ HasTimedFault text.now prefix.now salt.now keys.now now max_age fault }
-{
-    let signer = Signer::new(keys, prefix, salt);
-    match signer.unsign_timed(text, now, max_age) {
-        Ok((value, _)) => Ok(value),
-        Err(fault) => Err(fault),
     }
 }
 

@@ -1,7 +1,6 @@
 //! Operations: the atomic events of the system.
 
 ghost use Rattle.std.specs.Prelude.{◌≡◌, IfOk};
-ghost use Rattle.std.specs.Option.{option_copied};
 
 use crypto_text::Text;
 use std::alloc::{AllocError, Global};
@@ -23,18 +22,9 @@ impl Op {
         match self {
             Op::Boot => Ok(Op::Boot),
             Op::Load { cookie, now } => Ok(Op::Load {
-                cookie: copy_of(alloc, cookie.as_ref())?,
+                cookie: cookie.as_ref().map(|text| text.copy(alloc)).transpose()?,
                 now: *now,
             }),
         }
-    }
-}
-
-fn copy_of(alloc: Global, text: Option<&Text>) -> Result<Option<Text>, AllocError>
-    ensures { IfOk result (λ copy. copy ≡ option_copied text.entry) }
-{
-    match text {
-        Some(text) => Ok(Some(text.copy(alloc)?)),
-        None => Ok(None),
     }
 }

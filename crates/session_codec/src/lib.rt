@@ -13,7 +13,6 @@
 mod auth_part;
 mod expiry;
 pub mod laws;
-mod nesting;
 mod object;
 mod session_map;
 mod session_text;

@@ -8,10 +8,9 @@ ghost use Rattle.ascii_json.specs.Profile.{FitsWithin, IsProfile};
 ghost use Rattle.ascii_json.specs.Representable.{IsRepresentable};
 ghost use Rattle.session_codec.specs.SessionMap.{IsSession, IsSessionValue, without};
 
-use crate::nesting::nests_within;
 use crate::object::{has_no_members, put_member, take_member};
+use ascii_json::fits_within;
 use serde_json::{Map, Value};
-use signing_core::is_profile;
 use std::alloc::{AllocError, Global};
 use std::marker::Model;
 
@@ -45,7 +44,7 @@ pub fn is_session_value(value: &Value) -> bool
     ensures value { IsTrue result ↔ IsSessionValue (view value.now) }
     ensures fits { IsTrue result ↔ FitsWithin 99 (view value.now) }
 {
-    nests_within(value, MOST_NESTED) && is_profile(value)
+    fits_within(value, MOST_NESTED)
 }
 
 impl SessionMap {

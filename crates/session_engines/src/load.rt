@@ -166,7 +166,7 @@ fn corrupt(alloc: Global, cookie: Option<&Text>) -> Result<Reply, AllocError>
 {
     Ok(Reply::Loaded {
         verdict: Verdict::Corrupt,
-        key: copy_of(alloc, cookie)?,
+        key: cookie.map(|text| text.copy(alloc)).transpose()?,
         payload: Text::of(alloc, "{}")?,
         user: None,
     })
@@ -188,7 +188,7 @@ fn judged(
     let verdict = verdict_on(cfg, keys, map, user.as_ref());
     Ok(Reply::Loaded {
         verdict,
-        key: copy_of(alloc, cookie)?,
+        key: cookie.map(|text| text.copy(alloc)).transpose()?,
         payload: payload(alloc, map)?,
         user: admitted_user(alloc, verdict, keys, user)?,
     })
@@ -223,13 +223,4 @@ fn user_read(alloc: Global, keys: &Keys, row: UserRow) -> Result<UserRead, Alloc
 {
     let auth_hash = session_auth_text(alloc, row.password.as_str(), keys.first())?;
     Ok(UserRead { row, auth_hash })
-}
-
-fn copy_of(alloc: Global, text: Option<&Text>) -> Result<Option<Text>, AllocError>
-    ensures { IfOk result (λ copy. copy ≡ option_copied text.entry) }
-{
-    match text {
-        Some(text) => Ok(Some(text.copy(alloc)?)),
-        None => Ok(None),
-    }
 }

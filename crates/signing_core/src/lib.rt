@@ -5,7 +5,8 @@
 //! To change keys, take `rotated` and, once no text of the old keys is wanted any more, `retired`.
 //!
 //! - `Signer` signs a text for one use, which its salt names. `sign` and `unsign` know no time;
-//!   `sign_timed` and `unsign_timed` sign a moment with it, so that old texts can be refused.
+//!   `sign_timed` and `unsign_timed` sign a moment with it, so that old texts can be refused;
+//!   `current_value` reads such a text where the moment itself isn't wanted.
 //! - `dumps` and `loads` sign a JSON value, and `sign_cookie` and `unsign_cookie` the value of a
 //!   cookie for its name.
 //! - `is_profile`, `json_ascii` and `json_read` are those of `ascii_json`: the values that can be
@@ -31,4 +32,5 @@ pub use crate::keys::{Keys, KeysFault, RotateFault};
 pub use crate::signed_cookie::{CookieFault, sign_cookie, unsign_cookie};
 pub use crate::signed_json::{LoadFault, dumps, loads};
 pub use crate::signer::{SignFault, Signer, TimedFault};
+pub use crate::timed_text::current_value;
 pub use ascii_json::{JsonFault, is_profile, json_ascii, json_read};

@@ -6,7 +6,8 @@ ghost use Rattle.signing_core.specs.TimedText.{HasTimedFault, IsCurrent};
 use crate::keys::Keys;
 use crate::signer::{Signer, TimedFault};
 
-/// The value of a text that was signed with a time no longer ago than allowed.
+/// The value of a text that was signed with a time. Its age at `now` must not be above `max_age`, where
+/// there is one; all are in seconds. Refusals come in the order of the enum. Takes no memory.
 pub fn current_value<'t>(
     keys: &Keys,
     prefix: &str,
