@@ -16,6 +16,7 @@ use http_edge::{EdgeFault, Reader, Request, read_request};
 use keepers::Keeper;
 use outside::{Clock, Sink, Source, Words};
 use session_engines::Ledger;
+use site_file::Settings;
 use std::alloc::{AllocError, Global};
 
 /// The response to the last of them says that the connection is closed.
@@ -49,12 +50,12 @@ pub struct Round {
     pub end: Option<End>,
 }
 
-/// Serves one connection, at most 1,000 requests, as a worker whose next request has the number `first`. Neither
-/// input nor output is used again.
+/// Serves one connection of a site, at most 1,000 requests, as a worker whose next request has the number `first`. The
+/// ledger was opened under the site's settings. Neither input nor output is used again.
 pub fn serve_solo<K: Keeper, I: Source, O: Sink, C: Clock, W: Words>(
     alloc: Global,
     ledger: &mut Ledger<K>,
-    hosts: &TextList,
+    settings: &Settings,
     worker: u64,
     first: u64,
     input: &mut I,
@@ -62,10 +63,11 @@ pub fn serve_solo<K: Keeper, I: Source, O: Sink, C: Clock, W: Words>(
     clock: &mut C,
     words: &mut W,
 ) -> Report
-    requires { first ≤ 2 ^ 62 }
+    requires first { first ≤ 2 ^ 62 }
+    requires cfg { ledger.old.cfg ≡ settings.now.cfg }
     ensures serves { let before : Seen = record { input = record { left = I.left input.old; faults = I.read_faults input.old }; output = record { written = O.written output.old; faults = O.write_faults output.old }; inside = record { readings = C.readings clock.old; place = W.place words.old; store = record { report = K.report ledger.old.keeper; entry_count = K.entry_count ledger.old.keeper; faults = K.faults ledger.old.keeper } } } in
         let after : Seen = record { input = record { left = I.left input.new; faults = I.read_faults input.new }; output = record { written = O.written output.new; faults = O.write_faults output.new }; inside = record { readings = C.readings clock.new; place = W.place words.new; store = record { report = K.report ledger.new.keeper; entry_count = K.entry_count ledger.new.keeper; faults = K.faults ledger.new.keeper } } } in
-        let server : Server = record { cfg = ledger.old.cfg; hosts = hosts.now; boot = ledger.old.boot; worker = worker } in
+        let server : Server = record { cfg = settings.now.cfg; hosts = settings.now.allowed; boot = ledger.old.boot; worker = worker } in
         Serves server first before after result }
     ensures same { (ledger.new.cfg ≡ ledger.old.cfg) × (ledger.new.boot ≡ ledger.old.boot) }
     ensures history { KeepsHistory (K.report ledger.old.keeper) (K.report ledger.new.keeper) }
@@ -83,7 +85,7 @@ pub fn serve_solo<K: Keeper, I: Source, O: Sink, C: Clock, W: Words>(
         let round = serve_next(
             alloc,
             ledger,
-            hosts,
+            &settings.allowed,
             place,
             &mut reader,
             input,

@@ -18,7 +18,7 @@ use crypto_text::TextList;
 use keepers::Keeper;
 use outside::{Clock, InputFault, Sink, Source, Words, read_up_to};
 use session_engines::{Ledger, OpenFault};
-use site_file::{Settings, SettingsAll, SettingsFault, read_settings};
+use site_file::{SettingsAll, SettingsFault, read_settings};
 use std::alloc::{AllocError, Global};
 
 /// One byte more than a settings file may have, to see that it has too many.
@@ -146,14 +146,16 @@ fn pipe<I: Source, O: Sink, K: Keeper, C: Clock, W: Words>(
     ensures history { KeepsHistory (K.report keeper) (K.report result.1) }
 {
     let SettingsAll { settings, opening } = site;
-    let Settings { cfg, allowed, .. } = settings;
+    let Ok(cfg) = settings.cfg.copy(alloc) else {
+        return (Status::Memory, keeper);
+    };
     match Ledger::open_with(alloc, keeper, cfg, &opening) {
         Ok(ledger) => {
             let mut ledger = ledger;
             let report = serve_solo(
                 alloc,
                 &mut ledger,
-                &allowed,
+                &settings,
                 1,
                 1,
                 input,

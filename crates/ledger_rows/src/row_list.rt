@@ -2,7 +2,8 @@
 
 ghost use Rattle.std.specs.Prelude.{◌≡◌, IfOk};
 
-use crate::rows::{SessionRow, UserRow};
+use crate::rows::{Backend, SessionRow, UserRow};
+use pass_hashers::Algo;
 use permissions::{GroupRow, PermRow};
 use std::alloc::{AllocError, Global};
 use std::marker::Model;
@@ -85,5 +86,17 @@ impl Row for GroupRow {
 impl Row for PermRow {
     fn copy_row(&self, alloc: Global) -> Result<PermRow, AllocError> {
         self.copy(alloc)
+    }
+}
+
+impl Row for Backend {
+    fn copy_row(&self, _alloc: Global) -> Result<Backend, AllocError> {
+        Ok(*self)
+    }
+}
+
+impl Row for Algo {
+    fn copy_row(&self, _alloc: Global) -> Result<Algo, AllocError> {
+        Ok(*self)
     }
 }

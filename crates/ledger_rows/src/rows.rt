@@ -89,6 +89,20 @@ impl Backend {
     }
 }
 
+impl Cfg {
+    /// The same once more.
+    pub fn copy(&self, alloc: Global) -> Result<Cfg, AllocError>
+        ensures { IfOk result (λ copy. copy ≡ self.now) }
+    {
+        Ok(Cfg {
+            engine: self.engine,
+            backends: self.backends.copy(alloc)?,
+            installed: self.installed.copy(alloc)?,
+            preferred: self.preferred,
+        })
+    }
+}
+
 impl UserRow {
     /// The same row once more.
     pub fn copy(&self, alloc: Global) -> Result<UserRow, AllocError>

@@ -6,7 +6,7 @@ use Rattle.auth_server.proofs.connection.serve_solo.Given as goal
 -- what was done so far and what completes it; nothing else has changed, and there is room for the moments to come
 abbrev pub invariant-loop-done : goal.invariant-loop-done
 invariant-loop-done g l = record {
-  underway : IsUnderway (server_by l.fn.ledger.cfg l.hosts l.fn.ledger.boot l.worker) l.first
+  underway : IsUnderway (server_by l.settings.cfg l.settings.allowed l.fn.ledger.boot l.worker) l.first
       (record {
         input = record { left = g.I.Source.left l.fn.input; faults = g.I.Source.read_faults l.fn.input };
         output = record { written = g.O.Sink.written l.fn.output; faults = g.O.Sink.write_faults l.fn.output };
