@@ -1,6 +1,6 @@
 -- The table of verdicts, read backwards and forwards from its last line.
 use Rattle.std.proofs.Common.{◌≡◌, ◌<◌, ◌≤◌, ℕ, suc, List, [], ◌∷◌, Bool, true, false, Option, Some, None, Contains, length, sym, ap, ◌∙◌, refl, subst, arith}
-use Rattle.std.specs.Prelude.{◌≢◌, Result, Ok, Err, bytes_eq, get_or, if◌then◌else◌, nat_lt, position}
+use Rattle.std.specs.Prelude.{◌≢◌, Result, Ok, Err, bytes_eq, if◌then◌else◌, nat_lt}
 use Rattle.std.specs.List.{position_or_len}
 use Rattle.std.proofs.lemmas.Bool.{le-ltb, lt-ltb, ltb-false, ltb-true}
 use Rattle.std.proofs.lemmas.List.Quantifiers.{position-Some}
@@ -23,7 +23,7 @@ use Rattle.ledger_rows.specs.declared.rows.Backend.TheVariants.{Model, AllowAll}
 use Rattle.ledger_rows.specs.declared.rows.SessionRow.{SessionRow}
 use Rattle.ledger_rows.specs.declared.rows.UserRow.{UserRow}
 use Rattle.ledger_rows.specs.declared.verdict.Verdict.{Verdict}
-use Rattle.ledger_rows.specs.declared.verdict.Verdict.TheVariants.{NoCookie, NotStored, Corrupt, NoAuth, BadBackend, NoUser, Inactive, BadHash, Admitted}
+use Rattle.ledger_rows.specs.declared.verdict.Verdict.TheVariants.{NoCookie, NotStored, Inactive, Admitted}
 
 -- ---- backwards: what stands where a verdict admits
 

@@ -1,11 +1,11 @@
 -- Histories that grow at their end.
-use Rattle.std.proofs.Common.{◌≡◌, ◌++◌, [], ◌∷◌, List, length, take, All, ap, sym, ◌∙◌, arith}
+use Rattle.std.proofs.Common.{◌≡◌, ◌++◌, [], ◌∷◌, List, length, ap, sym, ◌∙◌, arith}
 use Rattle.std.proofs.lemmas.List.Sums.{fold-append}
 use Rattle.std.proofs.lemmas.List.Elements.{All-append, All-cons}
 use Rattle.std.proofs.Math.Seq.{take-length}
 use Rattle.ledger_rows.specs.State.{State}
 use Rattle.ledger_rows.specs.Step.{IsOperation, state_after}
-use Rattle.ledger_rows.specs.History.{IsLegal, state_after_all, state_at}
+use Rattle.ledger_rows.specs.History.{state_after_all, state_at}
 use Rattle.ledger_rows.specs.Laws.{LegalHistoryGrows}
 use Rattle.ledger_rows.specs.declared.rows.Engine.{Engine}
 use Rattle.ledger_rows.specs.declared.entry.Entry.{Entry}

@@ -1,5 +1,5 @@
 -- When the rows that a new store begins with are well formed. This project's own.
-use Rattle.std.specs.Prelude.{◌≡◌, ◌≢◌, ◌^◌, ◌≤◌, ℕ, List, [], ◌∷◌, Option, None, length, map}
+use Rattle.std.specs.Prelude.{◌≡◌, ◌≢◌, ◌^◌, ◌≤◌, ℕ, List, [], ◌∷◌, None, map}
 use Rattle.std.specs.List.{All, AllPairs, Contains}
 use Rattle.std.specs.List.Sorted.{IsStrictlyIncreasing}
 use Rattle.pass_hashers.specs.PasswordText.{IsPasswordText}

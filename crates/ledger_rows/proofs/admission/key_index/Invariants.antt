@@ -1,4 +1,4 @@
-use Rattle.std.proofs.Common.{◌≡◌, ◌<◌, ℕ}
+use Rattle.std.proofs.Common.{◌<◌, ℕ}
 use Rattle.std.specs.Prelude.{◌≢◌}
 use Rattle.signing_core.specs.Keys.{key_at}
 use Rattle.ledger_rows.specs.Admission.{auth_hash}
