@@ -867,10 +867,7 @@ fn a_worker_numbers_its_requests(rt: HostRuntime) -> Result<(), Fail> {
     Ok(())
 }
 
-#[test]
-fn a_session_admits_its_user_until_it_is_over(rt: HostRuntime) -> Result<(), Fail> {
-    let alloc = rt.alloc();
-    let words = words_of(alloc, &["site.json", "mem", "pipe"])?;
+fn is_admitted(rt: &impl Abort, alloc: Global, words: &TextList) -> Result<(), Fail> {
     let cookie = text_of(alloc, ALICES_KEY)?;
     let alices = page(
         alloc,
@@ -886,22 +883,36 @@ fn a_session_admits_its_user_until_it_is_over(rt: HostRuntime) -> Result<(), Fai
         entries: &[boot(), load(1, Some(cookie))],
     };
     ends_with(
-        &rt,
+        rt,
         alloc,
-        &words,
+        words,
         &site(ALICES_SITE, ALICES_REQUEST),
         &due,
         "in time",
-    )?;
+    )
+}
+
+fn is_forgotten(rt: &impl Abort, alloc: Global, words: &TextList) -> Result<(), Fail> {
+    let cookie = text_of(alloc, ALICES_KEY)?;
+    let nobodys = page(alloc, "200 OK", 10, FORGOTTEN, "keep-alive", "anonymous\n")?;
     let over = Given {
         now: 1_700_000_001,
         ..site(ALICES_SITE, ALICES_REQUEST)
     };
-    let (status, output, _) = run(alloc, &words, &over)?;
-    let due = page(alloc, "200 OK", 10, FORGOTTEN, "keep-alive", "anonymous\n")?;
-    assert_eq!(rt; status, Status::Done);
-    assert_eq!(rt; output.items(), due.as_bytes());
-    Ok(())
+    let due = Due {
+        status: Status::Done,
+        output: nobodys.as_bytes(),
+        entries: &[boot(), load_of(1, 1, Some(cookie), 1_700_000_001)],
+    };
+    ends_with(rt, alloc, words, &over, &due, "over")
+}
+
+#[test]
+fn a_session_admits_its_user_until_it_is_over(rt: HostRuntime) -> Result<(), Fail> {
+    let alloc = rt.alloc();
+    let words = words_of(alloc, &["site.json", "mem", "pipe"])?;
+    is_admitted(&rt, alloc, &words)?;
+    is_forgotten(&rt, alloc, &words)
 }
 
 #[test]

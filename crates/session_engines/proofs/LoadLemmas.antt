@@ -1,5 +1,5 @@
 -- A load, put together from what it reads.
-use Rattle.std.proofs.Common.{◌≡◌, ℕ, List, Option, Some, None, subst, sym}
+use Rattle.std.proofs.Common.{◌≡◌, ℕ, List, Option, Some, None, subst}
 use Rattle.std.specs.Prelude.{IfOk, Result, Ok, Err}
 use Rattle.serde_json.specs.Data.{Members}
 use Rattle.session_codec.specs.SessionMap.{auth_of}

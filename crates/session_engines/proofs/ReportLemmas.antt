@@ -1,20 +1,15 @@
 -- Facts about what a keeper reports, and about replies.
 use Rattle.std.proofs.Common.{◌≡◌, ℕ, [], ◌∷◌, ◌++◌, arith, refl, sym, subst}
 use Rattle.std.specs.Prelude.{IsErrOf, Err}
-use Rattle.ledger_rows.specs.State.{State}
-use Rattle.ledger_rows.specs.Step.{IsOperation, reply_to, state_after}
-use Rattle.ledger_rows.specs.declared.rows.Cfg.{Cfg}
-use Rattle.ledger_rows.specs.declared.operation.Op.{Op}
-use Rattle.ledger_rows.specs.declared.operation.Op.TheVariants.{Boot, Load}
-use Rattle.ledger_rows.specs.declared.reply.Reply.{Reply}
+use Rattle.ledger_rows.specs.Step.{IsOperation, state_after}
 use Rattle.ledger_rows.specs.History.{IsLegal}
 use Rattle.ledger_rows.proofs.HistoryLemmas.{legal_history_grows}
 use Rattle.ledger_rows.specs.declared.rows.Engine.{Engine}
 use Rattle.ledger_rows.specs.declared.rows.Engine.TheVariants.{Db}
 use Rattle.ledger_rows.specs.declared.rows.Opening.{Opening}
 use Rattle.ledger_rows.specs.declared.entry.Entry.{Entry}
-use Rattle.keepers.specs.Keeper.{Contents, Report, Unreported, Fresh, Holding, OnHolding, installed}
-use Rattle.session_engines.specs.Ledger.{IsReplyOfKind, IsSoundIn, KeepsHistory, stepped}
+use Rattle.keepers.specs.Keeper.{Report, Unreported, Fresh, Holding, installed}
+use Rattle.session_engines.specs.Ledger.{IsSoundIn, KeepsHistory, stepped}
 use Rattle.session_engines.specs.Start.{boot_entry}
 
 -- an error is the same in a result of another type

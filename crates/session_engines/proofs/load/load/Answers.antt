@@ -1,7 +1,6 @@
-use Rattle.std.proofs.Common.{subst, sym, ◌∙◌}
+use Rattle.std.proofs.Common.{sym, ◌∙◌}
 use Rattle.std.specs.Option.{option_copied}
-use Rattle.keepers.specs.Keeper.{OnHolding}
-use Rattle.session_engines.proofs.LoadLemmas.{if_ok_map, loaded_none, loaded_text, on_holding_both, on_holding_one}
+use Rattle.session_engines.proofs.LoadLemmas.{loaded_none, on_holding_one}
 use Rattle.session_engines.proofs.load.load.Goals as goal
 
 pub returns-in_ok-unstored-in-None-clause-reply : goal.returns-in_ok-unstored-in-None-clause-reply
