@@ -1,5 +1,5 @@
 -- The opening of well formed entries is one that a store may begin with.
-use Rattle.std.proofs.Common.{◌≡◌, ◌==◌, ◌<◌, ◌≤◌, ℕ, Bool, true, false, cond, List, [], ◌∷◌, Option, Some, None, IsSome, length, map, refl, ap, sym, subst, ◌∙◌, arith, suc, zero}
+use Rattle.std.proofs.Common.{◌≡◌, ◌==◌, ℕ, Bool, true, false, cond, List, [], ◌∷◌, Option, Some, None, IsSome, map, refl, ap, sym, subst, ◌∙◌, arith, suc}
 use Rattle.std.specs.List.{All, Contains}
 use Rattle.std.proofs.lemmas.List.{get_or_default}
 use Rattle.std.proofs.lemmas.List.Elements.{All-map}
@@ -10,10 +10,9 @@ use Rattle.session_codec.specs.SessionText.{text_of}
 use Rattle.session_codec.specs.declared.session_text.SessionKind.TheVariants.{Stored}
 use Rattle.ledger_rows.specs.Admission.{auth_hash}
 use Rattle.ledger_rows.specs.Backends.{path_of}
-use Rattle.ledger_rows.specs.Opening.{AreDifferent, IsLoginText, IsOpening, IsOpeningSession, keys_of_sessions, login_text}
+use Rattle.ledger_rows.specs.Opening.{AreDifferent, IsLoginText, IsOpening, IsOpeningSession, keys_of_sessions}
 use Rattle.ledger_rows.specs.State.{State, opening_state, user_of}
 use Rattle.ledger_rows.specs.declared.rows.Backend.TheVariants.{Model}
-use Rattle.ledger_rows.specs.declared.rows.SessionRow.{SessionRow}
 use Rattle.ledger_rows.specs.declared.rows.UserRow.{UserRow}
 use Rattle.site_file.specs.OpeningForm.{AreEntries, IsSessionEntry, keys_of_entries, opening_from, password_of, session_row}
 use Rattle.site_file.specs.declared.entries.Entries.{Entries}

@@ -1,5 +1,5 @@
 -- The rows that the field `opening` of a settings file writes down, whether they are well formed or not. This project's own.
-use Rattle.std.specs.Prelude.{◌^◌, ℕ, List, [], ◌∷◌, Option, Some, None, codes, if◌then◌else◌}
+use Rattle.std.specs.Prelude.{ℕ, List, [], ◌∷◌, Option, Some, None, codes, if◌then◌else◌}
 use Rattle.serde_json.specs.Data.{Data}
 use Rattle.serde_json.specs.Find.{as_bool, as_object, as_str, get}
 use Rattle.permissions.specs.declared.rows.GroupRow.{GroupRow}

@@ -1,8 +1,8 @@
 -- The values of a JSON object (RFC 8259) by the names of its members, read as texts, numbers and lists of them.
-use Rattle.std.specs.Prelude.{◌&&◌, ℕ, List, [], ◌∷◌, Bool, true, false, Option, Some, None, bytes_eq, option_and_then, option_map}
+use Rattle.std.specs.Prelude.{◌&&◌, ℕ, List, [], ◌∷◌, Bool, true, false, Option, Some, None, bytes_eq, option_and_then}
 use Rattle.std.specs.List.{list_any}
 use Rattle.serde_json.specs.Data.{Data, Items, no_items, item, Members, no_members, member}
-use Rattle.serde_json.specs.Find.{as_array, as_number, as_object, as_u64, get}
+use Rattle.serde_json.specs.Find.{as_array, as_number, as_u64, get}
 
 -- what is read goes on, as in Rust by `?`
 infixl 10 ◌>>=◌

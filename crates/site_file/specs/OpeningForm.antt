@@ -1,5 +1,5 @@
 -- When the field `opening` of a settings file is well formed, and the opening that it says. This project's own.
-use Rattle.std.specs.Prelude.{◌≡◌, ◌^◌, ℕ, List, [], ◌∷◌, IsSome, Option, Some, None, map}
+use Rattle.std.specs.Prelude.{◌≡◌, ℕ, List, [], IsSome, Option, Some, None, map}
 use Rattle.std.specs.List.{All}
 use Rattle.serde_json.specs.Data.{Data}
 use Rattle.signing_core.specs.Keys.{key_at}

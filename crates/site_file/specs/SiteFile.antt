@@ -1,5 +1,5 @@
 -- What a settings file says: one JSON object (RFC 8259). The fields, their numbers and the order of refusals are this project's own.
-use Rattle.std.specs.Prelude.{◌≡◌, ◌<◌, ◌≤◌, ◌⊎◌, ◌==◌, ℕ, List, [], ◌∷◌, Bool, true, false, not, length, bytes_eq, if◌then◌else◌, Option, Some, None, option_and_then, codes, IsUtf8, MatchBool}
+use Rattle.std.specs.Prelude.{◌≡◌, ◌<◌, ◌≤◌, ◌⊎◌, ℕ, List, [], ◌∷◌, not, length, bytes_eq, if◌then◌else◌, Option, Some, None, option_and_then, codes, IsUtf8, MatchBool}
 use Rattle.std.specs.Char.{is_ascii_uppercase}
 use Rattle.std.specs.List.{All, AllPass}
 use Rattle.serde_json.specs.Data.{Data}
@@ -15,8 +15,7 @@ use Rattle.ledger_rows.specs.Opening.{AreDifferent}
 use Rattle.ledger_rows.specs.declared.rows.Backend.TheVariants.{Model}
 use Rattle.ledger_rows.specs.declared.rows.Cfg.{Cfg}
 use Rattle.ledger_rows.specs.declared.rows.Engine.TheVariants.{Db}
-use Rattle.ledger_rows.specs.declared.rows.Opening.{Opening}
-use Rattle.site_file.specs.Fields.{field, has_only, list_in, list_or_empty, number_in}
+use Rattle.site_file.specs.Fields.{has_only, list_in, list_or_empty, number_in}
 use Rattle.site_file.specs.OpeningForm.{IsOpeningOf}
 use Rattle.site_file.specs.declared.settings.SettingsAll.{SettingsAll}
 

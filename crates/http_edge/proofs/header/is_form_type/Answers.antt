@@ -1,6 +1,6 @@
-use Rattle.std.proofs.Common.{◌≡◌, ◌==◌, ℕ, List, Some, sym, ap, ◌∙◌, codes, rules}
+use Rattle.std.proofs.Common.{◌≡◌, ◌==◌, ℕ, List, sym, ap, ◌∙◌, codes}
 use Rattle.std.specs.List.{before_first}
-use Rattle.http_edge.specs.HeaderFields.{as_text, is_form, same_but_case}
+use Rattle.http_edge.specs.HeaderFields.{is_form, same_but_case}
 use Rattle.http_edge.proofs.Texts.{as_text-text, as_text-none}
 use Rattle.http_edge.proofs.header.is_form_type.Goals as goal
 

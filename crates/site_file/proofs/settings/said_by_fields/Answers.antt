@@ -1,4 +1,4 @@
-use Rattle.std.proofs.Common.{◌≡◌, inl, inr, ap, refl, Err}
+use Rattle.std.proofs.Common.{inl, inr, ap, refl, Err}
 use Rattle.std.proofs.lemmas.Result.{err_from_is_err_and}
 use Rattle.site_file.specs.SiteFile.{Wrong}
 use Rattle.site_file.proofs.SiteFileLemmas.{same_refusal}
