@@ -18,7 +18,7 @@ high_surrogate c = 0xd800 + (c - 0x10000) / 1024
 abbrev pub low_surrogate : ℕ → ℕ
 low_surrogate c = 0xdc00 + (c - 0x10000) % 1024
 
--- what stands in a string for a character: its short escape where it has one, itself from 0x20 to
+-- what is in a string for a character: its short escape where it has one, itself from 0x20 to
 -- 0x7e, else the escapes of its one or two code units
 unfoldable pub escaped_char : ℕ → List ℕ
 escaped_char c =
@@ -30,7 +30,7 @@ abbrev pub quoted_text : List ℕ → List ℕ
 quoted_text s = 34 ∷ (flat_map escaped_char (chars s) ++ 34 ∷ [])
 
 abbrev mutual
-  -- the text of a value that has no float; members stand in the order of their keys' bytes
+  -- the text of a value that has no float; members are in the order of their keys' bytes
   pub json_of : Data → List ℕ
   json_of null = token_text Token.null
   json_of (boolean b) = token_text (Token.boolean b)

@@ -1,4 +1,4 @@
--- How compact JSON text becomes ASCII: its short escapes stand already, so each character above
+-- How compact JSON text becomes ASCII: its short escapes are there already, so each character above
 -- 0x7e is escaped and all else stays. For private clauses.
 use Rattle.std.specs.Prelude.{ℕ, List, [], ◌∷◌, ◌++◌, cond, nat_lt, flat_map}
 use Rattle.std.specs.Str.{chars}

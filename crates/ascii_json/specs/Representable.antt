@@ -1,4 +1,4 @@
--- What a value without float can stand for: its strings are text, its whole numbers have 64 bits,
+-- What a value without float can be: its strings are text, its whole numbers have 64 bits,
 -- and the keys of its objects ascend.
 use Rattle.std.specs.Prelude.{◌≡◌, ◌<◌, ◌^◌, ℕ, pos, negsuc, List, IsUtf8, ⊤}
 use Rattle.std.specs.Ordering.{nat_cmp}
@@ -19,7 +19,7 @@ AllKeysAfter k no_members = ⊤
 AllKeysAfter k (member l d ms) = (slice_cmp nat_cmp k l ≡ Less) × AllKeysAfter k ms
 
 abbrev mutual
-  -- a value without float can stand for the data
+  -- a value without float can be the data
   pub IsRepresentable : Data → Type 0
   IsRepresentable null = ⊤
   IsRepresentable (boolean b) = ⊤

@@ -29,7 +29,8 @@ pub fn json_ascii(alloc: Global, value: &Value) -> Result<Text, AllocError>
 fn to_ascii(alloc: Global, text: &str) -> Result<String, AllocError>
     ensures { IfOk result (λ ascii. string_bytes ascii ≡ escaped_text text.now) }
 {
-    let mut out = String::new(alloc);
+    // Room for a text without such characters.
+    let mut out = String::with_capacity(alloc, text.len())?;
     for c in text.chars() {
         push_char(&mut out, c)?;
     }

@@ -1,17 +1,14 @@
 -- The pairs of a header, one piece after another.
-use Rattle.std.proofs.Common.{◌≡◌, ℕ, ◌<◌, ◌==◌, ◌&&◌, true, false, cond, not, List, [], ◌∷◌, ◌++◌, map, length, refl, sym, ap, ◌∙◌, arith}
-use Rattle.std.specs.List.{after_first, before_first, filter, position_or_len}
-use Rattle.std.specs.Str.{IsTrimAscii}
+use Rattle.std.proofs.Common.{◌≡◌, ℕ, ◌<◌, ◌==◌, ◌&&◌, Bool, true, false, cond, not, List, [], ◌∷◌, ◌++◌, map, reverse, length, Option, Some, None, refl, sym, ap, ◌∙◌, arith}
+use Rattle.std.specs.List.{after_first, before_first, filter, find, position_or_len}
+use Rattle.std.specs.Option.{option_copied}
+use Rattle.std.specs.Str.{bytes_eq}
 use Rattle.std.proofs.lemmas.Bool.{le-ltb, lt-ltb}
-use Rattle.std.proofs.lemmas.List.{append-nil, map-append}
+use Rattle.std.proofs.lemmas.List.{append-nil, map-append, reverse-append}
 use Rattle.std.proofs.lemmas.List.Elements.{filter-append}
-use Rattle.std.proofs.lemmas.Str.Ascii.{trim_ascii_is}
+use Rattle.crypto_text.specs.WhiteSpace.{trimmed}
 use Rattle.cookie_text.specs.declared.cookie_header.Cookie.{Cookie}
-use Rattle.cookie_text.specs.CookieHeader.{cookie_of, is_equals_sign, is_kept, name_part, trimmed, value_part}
-
--- what trimming gives
-pub trimmed-is : (text result : List ℕ) → IsTrimAscii text result → result ≡ trimmed text
-trimmed-is text result is = trim_ascii_is text result _ refl is
+use Rattle.cookie_text.specs.CookieHeader.{cookie_of, is_equals_sign, is_kept, name_part, named_value, value_of, value_part}
 
 -- a piece with an equals sign
 pub name_part-cut : (piece : List ℕ) → position_or_len is_equals_sign piece < length piece → name_part piece ≡ before_first is_equals_sign piece
@@ -52,3 +49,42 @@ pub pairs_in-dropped : (pieces : List (List ℕ)) (piece : List ℕ) (cookies : 
 pairs_in-dropped pieces piece cookies cookie so_far here blank =
     let counts = ap is_kept (sym here) ∙ ap not blank in
     rw (pairs_in-more pieces piece, counts) (so_far ∙ sym (append-nil _))
+
+-- ---- the last cookie of a name
+
+last_value : (cookies : List Cookie) (cookie : Cookie) (name : List ℕ) (kept same : Bool) → bytes_eq cookie.name name ≡ same
+    → value_of (cookies ++ cond kept (cookie ∷ []) []) name ≡ cond (kept && same) (Some cookie.value) (value_of cookies name)
+last_value cookies cookie name true true is = rw (reverse-append cookies (cookie ∷ []), is) refl
+last_value cookies cookie name true false is = rw (reverse-append cookies (cookie ∷ []), is) refl
+last_value cookies cookie name false same is = ap (λ (cs : List Cookie). value_of cs name) (append-nil cookies)
+
+value_of-more : (pieces : List (List ℕ)) (piece name : List ℕ)
+    → value_of (pairs_in (pieces ++ piece ∷ [])) name
+    ≡ cond (is_kept (cookie_of piece) && bytes_eq (cookie_of piece).name name) (Some (cookie_of piece).value) (value_of (pairs_in pieces) name)
+value_of-more pieces piece name =
+    ap (λ (cs : List Cookie). value_of cs name) (pairs_in-more pieces piece)
+    ∙ last_value (pairs_in pieces) (cookie_of piece) name (is_kept (cookie_of piece)) (bytes_eq (cookie_of piece).name name) refl
+
+picked : (test : Bool) (value : List ℕ) (before : Option (List ℕ)) (v : List ℕ) → cond test (Some value) None ≡ Some v → cond test (Some value) before ≡ Some v
+picked true value before v is = is
+picked false value before v is = absurd (cc is)
+
+passed_over : (test : Bool) (value : List ℕ) (before : Option (List ℕ)) → cond test (Some value) None ≡ None → cond test (Some value) before ≡ before
+passed_over true value before is = absurd (cc is)
+passed_over false value before is = refl
+
+-- a piece that has the name gives the value
+pub value_of-found : (pieces : List (List ℕ)) (piece name value : List ℕ) → named_value piece name ≡ Some value → value_of (pairs_in (pieces ++ piece ∷ [])) name ≡ Some value
+value_of-found pieces piece name value here = value_of-more pieces piece name ∙ picked _ _ (value_of (pairs_in pieces) name) value here
+
+-- another leaves it
+pub value_of-other : (pieces : List (List ℕ)) (piece name : List ℕ) → named_value piece name ≡ None → value_of (pairs_in (pieces ++ piece ∷ [])) name ≡ value_of (pairs_in pieces) name
+value_of-other pieces piece name none = value_of-more pieces piece name ∙ passed_over _ _ (value_of (pairs_in pieces) name) none
+
+-- a piece in its parts
+pub named_value-is : (piece own value name : List ℕ) (blank same : Bool) → own ≡ trimmed (name_part piece) → value ≡ trimmed (value_part piece)
+    → blank ≡ ((length own == 0) && (length value == 0)) → same ≡ bytes_eq own name → named_value piece name ≡ cond (not blank && same) (Some value) None
+named_value-is piece own value name blank same is_own is_value is_blank is_same =
+    ap (λ (c : Cookie). cond (is_kept c && bytes_eq c.name name) (Some c.value) None) (sym (cookie_of-made piece own value is_own is_value))
+    ∙ ap (λ (b : Bool). cond (not b && bytes_eq own name) (Some value) None) (sym is_blank)
+    ∙ ap (λ (s : Bool). cond (not blank && s) (Some value) None) (sym is_same)

@@ -1,9 +1,9 @@
 -- The cookies of a `Cookie` header, as Django's `parse_cookie` cuts it; quotes and escapes stay as they are.
-use Rattle.std.specs.Prelude.{ℕ, ◌-◌, ◌==◌, ◌&&◌, nat_lt, not, Bool, if◌then◌else◌, List, [], drop, length, map, reverse, take, Option}
-use Rattle.std.specs.Char.{is_ascii_whitespace}
-use Rattle.std.specs.List.{after_first, before_first, filter, find, position_or_len, prefix_len, slice_split, suffix_len}
+use Rattle.std.specs.Prelude.{ℕ, ◌==◌, ◌&&◌, nat_lt, not, Bool, if◌then◌else◌, List, [], length, map, reverse, Option, None, Some}
+use Rattle.std.specs.List.{after_first, before_first, filter, find, position_or_len, slice_split}
 use Rattle.std.specs.Option.{option_map}
 use Rattle.std.specs.Str.{bytes_eq}
+use Rattle.crypto_text.specs.WhiteSpace.{trimmed}
 use Rattle.cookie_text.specs.declared.cookie_header.Cookie.{Cookie}
 
 abbrev pub is_semicolon : ℕ → Bool
@@ -12,19 +12,11 @@ is_semicolon c = c == 59
 abbrev pub is_equals_sign : ℕ → Bool
 is_equals_sign c = c == 61
 
--- the text without white space of ASCII at its beginning
-abbrev pub without_leading : List ℕ → List ℕ
-without_leading text = drop (prefix_len is_ascii_whitespace text) text
-
--- nor at its end
-abbrev pub trimmed : List ℕ → List ℕ
-trimmed text = take (length (without_leading text) - suffix_len is_ascii_whitespace (without_leading text)) (without_leading text)
-
 -- a piece has a name where there is an equals sign
 abbrev pub has_name : List ℕ → Bool
 has_name piece = nat_lt (position_or_len is_equals_sign piece) (length piece)
 
--- what stands before the first equals sign, and what stands behind it; without one all is the value
+-- what comes before the first equals sign, and what comes after it; without one all is the value
 abbrev pub name_part : List ℕ → List ℕ
 name_part piece = if has_name piece then before_first is_equals_sign piece else []
 
@@ -46,3 +38,7 @@ pairs_of header = filter is_kept (map cookie_of (slice_split is_semicolon header
 -- the value of the last cookie of a name
 abbrev pub value_of : List Cookie → List ℕ → Option (List ℕ)
 value_of cookies name = option_map (λ (cookie : Cookie). cookie.value) (find (λ (cookie : Cookie). bytes_eq cookie.name name) (reverse cookies))
+
+-- the value of a piece of the header, where its cookie has the name
+abbrev pub named_value : List ℕ → List ℕ → Option (List ℕ)
+named_value piece name = if is_kept (cookie_of piece) && bytes_eq (cookie_of piece).name name then Some (cookie_of piece).value else None

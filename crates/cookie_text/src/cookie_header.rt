@@ -2,9 +2,10 @@
 
 ghost use Rattle.std.specs.Prelude.{◌≡◌, ◌==◌, ◌&&◌, IfOk, length};
 ghost use Rattle.std.specs.Option.{option_copied};
-ghost use Rattle.cookie_text.specs.CookieHeader.{name_part, pairs_of, trimmed, value_of, value_part};
+ghost use Rattle.crypto_text.specs.WhiteSpace.{trimmed};
+ghost use Rattle.cookie_text.specs.CookieHeader.{name_part, named_value, pairs_of, value_of, value_part};
 
-use crypto_text::Text;
+use crypto_text::{Text, trimmed};
 use std::alloc::{AllocError, Global};
 
 /// A cookie that a client sent. The name is empty where the client sent none.
@@ -44,13 +45,40 @@ pub fn find<'a>(cookies: &'a [Cookie], name: &str) -> Option<&'a str>
         .map(|cookie| cookie.value.as_str())
 }
 
+/// The value of a name in a `Cookie` header, as `find` gives it of what `parse_cookies` makes of
+/// the header. Takes no memory.
+pub fn cookie_value<'a>(header: &'a str, name: &str) -> Option<&'a str>
+    ensures { option_copied result ≡ value_of (pairs_of header.now) name.now }
+{
+    let mut found = None;
+    for piece in header.split(';') {
+        if let Some(value) = value_in(piece, name) {
+            found = Some(value);
+        }
+    }
+    found
+}
+
+fn value_in<'a>(piece: &'a str, wanted: &str) -> Option<&'a str>
+    ensures { option_copied result ≡ named_value piece.now wanted.now }
+{
+    let (name, value) = parts_of(piece);
+    if is_blank(name, value) {
+        return None;
+    }
+    if name == wanted {
+        return Some(value);
+    }
+    None
+}
+
 fn parts_of(piece: &str) -> (&str, &str)
     ensures name { result.0.now ≡ trimmed (name_part piece.now) }
     ensures value { result.1.now ≡ trimmed (value_part piece.now) }
 {
     match piece.split_once('=') {
-        Some((name, value)) => (name.trim_ascii(), value.trim_ascii()),
-        None => ("", piece.trim_ascii()),
+        Some((name, value)) => (trimmed(name), trimmed(value)),
+        None => ("", trimmed(piece)),
     }
 }
 

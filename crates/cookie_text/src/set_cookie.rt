@@ -4,7 +4,7 @@ ghost use Rattle.std.specs.Prelude.{◌≡◌, ◌<◌, ◌≤◌, ◌++◌, IfO
 ghost use Rattle.cookie_text.specs.FixedDate.{fixed_date};
 ghost use Rattle.cookie_text.specs.SetCookie.{deletion_text, expires, flag, max_age, text_of};
 
-use crypto_text::Text;
+use crypto_text::{LAST_MOMENT, Text};
 use httpdate::{HttpDate, fmt_http_date};
 use std::alloc::{AllocError, Global};
 
@@ -25,7 +25,7 @@ pub struct CookieOut<'a> {
 /// and value stand as they are given.
 #[tactic(auto, unfolding(crate::specs::SetCookie::text_of))]
 pub fn set_cookie_text(alloc: Global, cookie: &CookieOut<'_>) -> Result<Text, AllocError>
-    requires now { cookie.now.now ≤ 250_000_000_000 }
+    requires now { cookie.now.now ≤ LAST_MOMENT }
     requires age { IfSome cookie.now.age (λ age. age ≤ 3_153_600_000) }
     ensures { IfOk result (λ text. text ≡ text_of cookie.entry.now) }
 {
@@ -58,7 +58,7 @@ fn push_expires(
     age: Option<u64>,
     now: u64,
 ) -> Result<(), AllocError>
-    requires now { now ≤ 250_000_000_000 }
+    requires now { now ≤ LAST_MOMENT }
     requires age { IfSome age (λ age. age ≤ 3_153_600_000) }
     ensures { OnOk result (string_bytes text.new ≡ string_bytes text.old ++ expires age now) }
 {

@@ -22,9 +22,14 @@ fn the_last_value_of_a_name_is_found(rt: HostRuntime) {
     }
     match find(cookies, "a") {
         Some(value) => assert_eq!(rt; value, "2"),
-        None => panic!(rt; "the name stands in the header"),
+        None => panic!(rt; "the name is in the header"),
     }
     assert_eq!(rt; find(cookies, "c").is_none(), true);
+    match cookie_value("a=1; b; a=2;;", "a") {
+        Some(value) => assert_eq!(rt; value, "2"),
+        None => panic!(rt; "the name is in the header"),
+    }
+    assert_eq!(rt; cookie_value("a=1; b; a=2;;", "c").is_none(), true);
 }
 
 #[test]
@@ -46,16 +51,17 @@ fn assert_set(
     rt: &impl Abort,
     alloc: Global,
     age: Option<u64>,
+    now: u64,
     http_only: bool,
     secure: bool,
     expected: &str,
 ) {
-    // A moment below the limit of both numbers, which a test's caller keeps to.
     let cookie = CookieOut {
         name: "sessionid",
         value: "x",
+        // At most what `set_cookie_text` takes, to which the callers keep.
         age: age.map(|age| age.min(3_153_600_000)),
-        now: 1_700_000_000,
+        now: now.min(250_000_000_000),
         http_only,
         secure,
     };
@@ -69,6 +75,7 @@ fn cookies_are_set(rt: HostRuntime) {
         &rt,
         rt.alloc(),
         None,
+        1_700_000_000,
         true,
         false,
         "sessionid=x; HttpOnly; Path=/; SameSite=Lax",
@@ -77,6 +84,7 @@ fn cookies_are_set(rt: HostRuntime) {
         &rt,
         rt.alloc(),
         Some(1_209_600),
+        1_700_000_000,
         true,
         true,
         "sessionid=x; expires=Tue, 28 Nov 2023 22:13:20 GMT; HttpOnly; Max-Age=1209600; Path=/; SameSite=Lax; Secure",
@@ -85,9 +93,19 @@ fn cookies_are_set(rt: HostRuntime) {
         &rt,
         rt.alloc(),
         Some(0),
+        1_700_000_000,
         false,
         false,
         "sessionid=x; expires=Tue, 14 Nov 2023 22:13:20 GMT; Max-Age=0; Path=/; SameSite=Lax",
+    );
+    assert_set(
+        &rt,
+        rt.alloc(),
+        Some(3_153_600_000),
+        250_000_000_000,
+        false,
+        false,
+        "sessionid=x; expires=Thu, 13 Feb 9992 12:26:40 GMT; Max-Age=3153600000; Path=/; SameSite=Lax",
     );
 }
 

@@ -1,4 +1,5 @@
 pub mod AlphabetLemmas
+pub mod CutLemmas
 pub mod DecimalLemmas
 pub mod DecodeSliceLemmas
 pub mod DerivedKeyLemmas
@@ -9,3 +10,4 @@ pub mod NumeralLemmas
 pub mod NumeralReading
 pub mod NumeralWriting
 pub mod Rfc4648Lemmas
+pub mod TextListLemmas

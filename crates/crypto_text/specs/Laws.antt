@@ -1,6 +1,7 @@
--- What numerals, base64url, hexadecimal and random texts are good for.
+-- What numerals, base64url, cuts, hexadecimal and random texts are good for.
 use Rattle.std.specs.Prelude.{◌≡◌, ℕ, ◌*◌, ◌^◌, ◌<◌, ◌≤◌, List, All, Contains, length}
 use Rattle.crypto_text.specs.Alphabet.{random_text}
+use Rattle.crypto_text.specs.Cut.{IsCutAtFirst, IsCutAtLast}
 use Rattle.crypto_text.specs.Hexadecimal.{hex_text}
 use Rattle.crypto_text.specs.Numeral.{IsNumeral, numeral_of}
 use Rattle.crypto_text.specs.Rfc4648.{IsBytes, base64url, sixes_of, url_safe_letters}
@@ -21,9 +22,17 @@ Base64urlTellsBytes = (first second : List ℕ) → IsBytes first → IsBytes se
 abbrev pub Base64urlHasLength : Type 0
 Base64urlHasLength = (bytes : List ℕ) → length (base64url bytes) ≡ sixes_of (length bytes)
 
--- only the 64 characters stand in it
+-- it has only the 64 characters
 abbrev pub Base64urlIsPlain : Type 0
 Base64urlIsPlain = (bytes : List ℕ) → All (Contains url_safe_letters) (base64url bytes)
+
+-- a text has one pair of parts before and after its first mark
+abbrev pub CutAtFirstTellsParts : Type 0
+CutAtFirstTellsParts = (mark : ℕ) (text front back other rest : List ℕ) → IsCutAtFirst mark text front back → IsCutAtFirst mark text other rest → (front ≡ other) × (back ≡ rest)
+
+-- and one before and after its last
+abbrev pub CutAtLastTellsParts : Type 0
+CutAtLastTellsParts = (mark : ℕ) (text front back other rest : List ℕ) → IsCutAtLast mark text front back → IsCutAtLast mark text other rest → (front ≡ other) × (back ≡ rest)
 
 -- a text is what one list of bytes is written as
 abbrev pub HexTellsBytes : Type 0

@@ -1,5 +1,5 @@
 -- Numerals in base 62 and base 36, after Django's `baseconv.base62` and `int_to_base36`, and in decimal, after Rust's `Display`.
-use Rattle.std.specs.Prelude.{◌≡◌, ℕ, ◌+◌, ◌*◌, ◌^◌, ◌<◌, ◌==◌, ◌&&◌, nat_lt, if◌then◌else◌, Option, None, Some, List, [], ◌∷◌, All, Contains, bytes_eq, codes, decimal, length, map, slice_index}
+use Rattle.std.specs.Prelude.{◌≡◌, ℕ, ◌+◌, ◌*◌, ◌^◌, ◌<◌, ◌==◌, ◌&&◌, nat_lt, if◌then◌else◌, Option, None, Some, List, [], ◌∷◌, All, Contains, bytes_eq, codes, decimal, length, map, option_and_then, slice_index}
 use Rattle.std.specs.Int.Digits.{digits_of}
 use Rattle.std.specs.List.{position_or_len}
 use Rattle.std.specs.Str.Parse.{digits_value}
@@ -14,7 +14,7 @@ base62_digits = codes "0123456789ABCDEFGHIJKLMNOPQRSTUVWXYZabcdefghijklmnopqrstu
 unfoldable pub base36_digits : List ℕ
 base36_digits = codes "0123456789abcdefghijklmnopqrstuvwxyz"
 
--- a digit's value is its place among the digits; for a character that is none it is their number
+-- a digit's value is its index among the digits; for a character that is none it is their number
 unfoldable pub digit_value : List ℕ → ℕ → ℕ
 digit_value digits c = position_or_len (λ digit. digit == c) digits
 
@@ -45,3 +45,7 @@ digits_in Base62 = base62_digits
 -- the number below 2^64 that the text is in decimal, without a sign or a leading zero
 unfoldable pub decimal_of : List ℕ → Option ℕ
 decimal_of text = let n = digits_value 10 text in if nat_lt n (2 ^ 64) && bytes_eq text (decimal n) then Some n else None
+
+-- the number from 1 to 2^64 - 1 that the text is in decimal, without a sign or a leading zero
+unfoldable pub positive_of : List ℕ → Option ℕ
+positive_of text = option_and_then (λ n. if n == 0 then None else Some n) (decimal_of text)

@@ -10,7 +10,7 @@ url_safe_letters = codes "ABCDEFGHIJKLMNOPQRSTUVWXYZabcdefghijklmnopqrstuvwxyz01
 abbrev pub IsBytes : List ℕ → Type 0
 IsBytes bytes = (i : ℕ) → slice_index bytes i < 256
 
--- the j-th bit of the bytes, the highest bit of each byte first; behind the last byte all bits are zero
+-- the j-th bit of the bytes, the highest bit of each byte first; after the last byte all bits are zero
 unfoldable pub bit_at : List ℕ → ℕ → ℕ
 bit_at bytes j = slice_index bytes (j / 8) / 2 ^ (7 - j % 8) % 2
 

@@ -11,13 +11,15 @@ use crate::text::Text;
 use base64::DecodeAllocError;
 use base64::engine::general_purpose::URL_SAFE_NO_PAD;
 use std::alloc::{AllocError, Global};
+use thiserror::Error;
 
 /// Why a text is not read as base64url.
-#[derive(Clone, Copy, Debug, Drop, PartialEq, Eq)]
+#[derive(Clone, Copy, Debug, Drop, PartialEq, Eq, Error)]
 pub enum B64Fault {
     /// No bytes are written so: a character, a length, or bits at the end that are not zero.
+    #[error("not base64url")]
     NotBase64,
-    /// Want of memory.
+    #[error("out of memory")]
     Memory,
 }
 

@@ -1,4 +1,4 @@
-//! Lists of numbers below 2^64 that are owned: ids, moments, places.
+//! Lists of numbers below 2^64 that are owned: ids, moments, indices.
 
 ghost use Rattle.std.specs.Prelude.{◌≡◌, IfOk, nat_eq};
 ghost use Rattle.std.specs.Cmp.{partial_equiv_from_equiv};

@@ -6,6 +6,8 @@ ghost use Rattle.crypto_text.specs.Laws.{
   Base64urlHasLength,
   Base64urlIsPlain,
   Base64urlTellsBytes,
+  CutAtFirstTellsParts,
+  CutAtLastTellsParts,
   HexHasLength,
   HexTellsBytes,
   NumeralIsShort,
@@ -36,9 +38,15 @@ pub fn base64url_has_length()
     ensures { Base64urlHasLength }
 {}
 
-/// Only letters, digits, `-` and `_` stand in base64url, so no `:` and no `.`.
+/// Only letters, digits, `-` and `_` are in base64url, so no `:` and no `.`.
 pub fn base64url_is_plain()
     ensures { Base64urlIsPlain }
+{}
+
+/// A text is cut at its first mark in one way, and so at its last.
+pub fn cut_tells_parts()
+    ensures first { CutAtFirstTellsParts }
+    ensures last { CutAtLastTellsParts }
 {}
 
 /// No two byte strings are written the same in hexadecimal.
@@ -51,7 +59,7 @@ pub fn hex_has_length()
     ensures { HexHasLength }
 {}
 
-/// Only letters of the alphabet stand in a random text.
+/// Only letters of the alphabet are in a random text.
 pub fn random_text_is_plain()
     ensures session36 { RandomTextIsPlain session36 }
     ensures letters62 { RandomTextIsPlain letters62 }

@@ -3,7 +3,7 @@
 
 ghost use Rattle.std.specs.Prelude.{ℕ, ◌≡◌, ◌+◌, ◌/◌, ◌%◌, ◌^◌, ◌<◌, ◌≤◌, [], ◌∷◌, ◌++◌, ◌↔◌, ◌==◌, ◌⊎◌, IfOk, IsTrue, OnOk, Some, decimal, length, position, slice_index, string_bytes};
 ghost use Rattle.std.specs.Int.{IsInRange};
-ghost use Rattle.crypto_text.specs.Numeral.{IsNumeral, base36_digits, base62_digits, decimal_of, digits_in, numeral_of};
+ghost use Rattle.crypto_text.specs.Numeral.{IsNumeral, base36_digits, base62_digits, decimal_of, digits_in, numeral_of, positive_of};
 
 #[cfg(test)]
 mod tests;
@@ -57,6 +57,18 @@ pub fn decimal_decode(text: &str) -> Option<u64>
         return None;
     }
     text.parse::<u64>().ok()
+}
+
+/// Reads a number from 1 on in decimal, as `decimal_decode` does. Takes no memory.
+#[tactic(auto, unfolding(crate::specs::Numeral::positive_of))]
+pub fn positive_decode(text: &str) -> Option<u64>
+    ensures value { result ≡ positive_of text.now }
+    ensures number { (n : ℕ) → (result ≡ Some n) ↔ ((text.now ≡ decimal n) × (1 ≤ n) × (n < 2 ^ 64)) }
+{
+    match decimal_decode(text) {
+        Some(0) | None => None,
+        Some(n) => Some(n),
+    }
 }
 
 #[derive(Clone, Copy)]
@@ -118,7 +130,7 @@ fn base62_value(byte: u8) -> Option<u64>
     }
 }
 
-// With a digit, which is a zero only where it stands alone.
+// With a digit, which is a zero only where it is alone.
 fn begins_as_decimal(bytes: &[u8]) -> bool
     ensures { IsTrue result ↔ (IsInRange 49 57 (slice_index bytes.now 0) ⊎ (bytes.now ≡ 48 ∷ [])) }
 {

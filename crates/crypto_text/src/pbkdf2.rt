@@ -46,7 +46,7 @@ fn derive<H: HashState<N>, const N: usize>(password: &[u8], salt: &[u8], count: 
     }
 }
 
-// As much of the block as there is room for behind `at`.
+// As much of the block as there is room for from `at` on.
 fn write_block<const N: usize>(out: &mut [u8], at: usize, block: &[u8; N])
     requires within { at ≤ length out.old }
     requires room { length out.old ≤ 1024 }

@@ -129,3 +129,44 @@ fn md5_hex_of_two_parts(rt: HostRuntime) {
     let text = md5_hex(b"abcdefghijklmnopqrstuv", b"wxyz");
     assert_eq!(rt; &text, b"c3fcd3d76192e4007dfb496cca67e13b");
 }
+
+#[test]
+fn texts_are_compared_with_one_another(rt: HostRuntime) {
+    let alloc = rt.alloc();
+    for (words, different) in [
+        (["b", "a", "ab"].as_slice(), true),
+        (["b", "", "ab", ""].as_slice(), false),
+        (["a"].as_slice(), true),
+    ] {
+        let mut texts = Vec::new(alloc);
+        for word in words {
+            let text = Text::of(alloc, word).expect(&rt, "there is memory");
+            texts.push(text).expect(&rt, "there is memory");
+        }
+        assert_eq!(rt; is_among(texts.as_slice(), "ab"), words.len() > 1);
+        assert_eq!(rt; are_different(texts), different);
+    }
+}
+
+#[test]
+fn texts_are_cut_and_trimmed(rt: HostRuntime) {
+    assert_eq!(rt; cut_at_first("a:b:c", ':'), Some(("a", "b:c")));
+    assert_eq!(rt; cut_at_last("a:b:c", ':'), Some(("a:b", "c")));
+    assert_eq!(rt; cut_at_first("abc", ':'), None);
+    assert_eq!(rt; cut_at_last("abc", ':'), None);
+    assert_eq!(rt; trimmed(" \t\n\x0c\r a b\u{a0} "), "a b\u{a0}");
+}
+
+#[test]
+fn moments_have_bounds(rt: HostRuntime) {
+    for (seconds, inside, nearest) in [
+        (0, false, 1_000_000_000),
+        (999_999_999, false, 1_000_000_000),
+        (1_000_000_000, true, 1_000_000_000),
+        (250_000_000_000, true, 250_000_000_000),
+        (250_000_000_001, false, 250_000_000_000),
+    ] {
+        assert_eq!(rt; is_moment(seconds), inside);
+        assert_eq!(rt; nearest_moment(seconds), nearest);
+    }
+}

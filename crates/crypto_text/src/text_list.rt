@@ -1,8 +1,9 @@
 //! A list of texts.
 
-ghost use Rattle.std.specs.Prelude.{◌≡◌, IfOk, nat_eq};
+ghost use Rattle.std.specs.Prelude.{◌≡◌, ◌≢◌, ◌↔◌, ◌+◌, ◌<◌, ℕ, [], Contains, IfOk, IsTrue, length, nat_eq, slice_index_or};
 ghost use Rattle.std.specs.Cmp.{partial_equiv_from_equiv};
 ghost use Rattle.std.specs.Cmp.Lexicographic.{pointwise, lists_equiv, nat_list_eq_equiv};
+ghost use Rattle.crypto_text.specs.TextList.{AreDifferent};
 
 use crate::text::Text;
 use std::alloc::{AllocError, Global};
@@ -73,6 +74,33 @@ impl PartialEq for TextList {
 
 impl Eq for TextList {
     ghost laws = { lists_equiv nat_list_eq_equiv };
+}
+
+/// Whether a text is one of the texts.
+pub fn is_among(texts: &[Text], text: &str) -> bool
+    ensures { IsTrue result ↔ Contains texts.now text.now }
+{
+    texts.iter().any(|known| known.as_str() == text)
+}
+
+/// Whether no two of the texts are the same. They are sorted, so that only neighbours are compared.
+pub fn are_different(texts: Vec<Text>) -> bool
+    ensures { IsTrue result ↔ AreDifferent texts.items }
+{
+    let mut sorted = texts;
+    sorted.sort_unstable();
+    neighbours_differ(sorted.as_slice())
+}
+
+fn neighbours_differ(sorted: &[Text]) -> bool
+    ensures { IsTrue result ↔ ((k : ℕ) → k + 1 < length sorted.now → slice_index_or sorted.now k [] ≢ slice_index_or sorted.now (k + 1) []) }
+{
+    for i in 1..sorted.len() {
+        if sorted[i - 1].as_str() == sorted[i].as_str() {
+            return false;
+        }
+    }
+    true
 }
 
 fn copies(alloc: Global, texts: &[Text]) -> Result<Vec<Text>, AllocError>

@@ -2,7 +2,7 @@
 use Rattle.std.proofs.Common.{◌≡◌, ℕ, ◌+◌, ◌<◌, ◌≤◌, true, false, List, [], ◌++◌, length, take, drop, refl, sym, ap, subst, ◌∙◌, arith, append-nil, append_assoc, length-drop, inl, inr, nat_lt, Option, Some, None, Result, Ok, Err}
 use Rattle.std.proofs.lemmas.Bool.Decides.{nat_tests}
 use Rattle.std.proofs.lemmas.List.{drop-take, drop-drop}
-use Rattle.outside.specs.Bytes.{NothingLeft, told_before}
+use Rattle.outside.specs.Devices.{Input, HasEnded, with_front}
 use Rattle.std.specs.Prelude.{IfSome}
 use Rattle.http_edge.specs.Reader.{RefusalIs, IsFramingOf}
 use Rattle.httparse.specs.Grammar.{RequestHead, print_request}
@@ -95,76 +95,72 @@ plan_done bytes kept plan r (h, is) enough rest made =
 -- ---- the clause
 
 -- a fault of the head is that of the bytes
-pub head_refused : (bytes : List ℕ) (told : Option (List ℕ)) (f : EdgeFault) → RefusesHead (front bytes) f → IsFaultOf bytes told f
-head_refused bytes told f (inl memory) = subst (IsFaultOf bytes told) (sym memory) tt
-head_refused bytes told BadHead (inr (h, is)) = framing_fault bytes BadHead h is
-head_refused bytes told HeadTooLong (inr (h, is)) = framing_fault bytes HeadTooLong h is
-head_refused bytes told TransferCoding (inr (h, is)) = framing_fault bytes TransferCoding h is
-head_refused bytes told ContentCoding (inr (h, is)) = framing_fault bytes ContentCoding h is
-head_refused bytes told NoLength (inr (h, is)) = framing_fault bytes NoLength h is
-head_refused bytes told BodyTooLong (inr (h, is)) = framing_fault bytes BodyTooLong h is
-head_refused bytes told CutShort (inr (h, is)) = absurd is.kind
-head_refused bytes told ReadFault (inr (h, is)) = absurd is.kind
-head_refused bytes told Memory (inr (h, is)) = absurd is.kind
+pub head_refused : (bytes : List ℕ) (now : Input) (f : EdgeFault) → RefusesHead (front bytes) f → IsFaultOf bytes now f
+head_refused bytes now f (inl memory) = subst (IsFaultOf bytes now) (sym memory) tt
+head_refused bytes now BadHead (inr (h, is)) = framing_fault bytes BadHead h is
+head_refused bytes now HeadTooLong (inr (h, is)) = framing_fault bytes HeadTooLong h is
+head_refused bytes now TransferCoding (inr (h, is)) = framing_fault bytes TransferCoding h is
+head_refused bytes now ContentCoding (inr (h, is)) = framing_fault bytes ContentCoding h is
+head_refused bytes now NoLength (inr (h, is)) = framing_fault bytes NoLength h is
+head_refused bytes now BodyTooLong (inr (h, is)) = framing_fault bytes BodyTooLong h is
+head_refused bytes now CutShort (inr (h, is)) = absurd is.kind
+head_refused bytes now ReadFault (inr (h, is)) = absurd is.kind
+head_refused bytes now Memory (inr (h, is)) = absurd is.kind
 
 -- an answer to the bytes that are there now is one to what was taken
-pub answers : {S : Type 0} (left : S → Option (List ℕ)) (faults : S → ℕ) (is_sure : S → Type 0) (old : List ℕ) (before : S)
-    (seen : List ℕ) (now : S) (result : Result (Option Request) EdgeFault) (new : List ℕ)
-    → ReadsOn left faults is_sure old before seen now → Answers seen (left now) result new
-    → AnswersTaken left faults is_sure old before result new now
-answers left faults is_sure old before seen now result new reads answer = record {
+pub answers : (old : List ℕ) (before : Input) (seen : List ℕ) (now : Input) (result : Result (Option Request) EdgeFault) (new : List ℕ)
+    → ReadsOn old before seen now → Answers seen now result new → AnswersTaken old before result new now
+answers old before seen now result new reads answer = record {
   taken = reads.taken;
-  told = reads.told;
-  answer = subst (λ bytes. Answers bytes (left now) result new) reads.kept answer;
-  count = reads.count;
-  sure = reads.sure;
+  source = reads.source;
+  answer = subst (λ bytes. Answers bytes now result new) reads.kept answer;
 }
 
 -- ---- what was left
 
-told_before_some : (a b : List ℕ) (told : Option (List ℕ)) → Some b ≡ told_before a told → (rest : List ℕ) × (told ≡ Some rest) × (b ≡ a ++ rest)
-told_before_some a b None is = absurd (cc)
-told_before_some a b (Some rest) is = (rest, refl, cc)
+with_front_some : (a b : List ℕ) (left : Option (List ℕ)) → Some b ≡ with_front a left → (rest : List ℕ) × (left ≡ Some rest) × (b ≡ a ++ rest)
+with_front_some a b None is = absurd (cc)
+with_front_some a b (Some rest) is = (rest, refl, cc)
 
-ended_left : (rest : List ℕ) → NothingLeft (Some rest) → rest ≡ []
-ended_left rest is = is
+ended_left : (rest : List ℕ) (now : Input) → now.left ≡ Some rest → HasEnded now → rest ≡ []
+ended_left rest now left ended = subst (λ (bytes : Option (List ℕ)). IfSome bytes (λ all. all ≡ [])) left ended
 
-fault_left : (seen rest : List ℕ) (f : EdgeFault) → IsFaultOf seen (Some rest) f → RefusalIs (seen ++ rest) f
-fault_left seen rest BadHead is = refused_settled seen rest BadHead (λ same. cc) is
-fault_left seen rest HeadTooLong is = refused_settled seen rest HeadTooLong (λ same. cc) is
-fault_left seen rest TransferCoding is = refused_settled seen rest TransferCoding (λ same. cc) is
-fault_left seen rest ContentCoding is = refused_settled seen rest ContentCoding (λ same. cc) is
-fault_left seen rest NoLength is = refused_settled seen rest NoLength (λ same. cc) is
-fault_left seen rest BodyTooLong is = refused_settled seen rest BodyTooLong (λ same. cc) is
-fault_left seen rest CutShort is = subst (λ bytes. IsFraming bytes (refused CutShort)) (sym (append-nil seen) ∙ ap (λ more. seen ++ more) (sym is.1)) is.0
-fault_left seen rest ReadFault is = tt
-fault_left seen rest Memory is = tt
+fault_left : (seen rest : List ℕ) (now : Input) (f : EdgeFault) → now.left ≡ Some rest → IsFaultOf seen now f → RefusalIs (seen ++ rest) f
+fault_left seen rest now BadHead left is = refused_settled seen rest BadHead (λ same. cc) is
+fault_left seen rest now HeadTooLong left is = refused_settled seen rest HeadTooLong (λ same. cc) is
+fault_left seen rest now TransferCoding left is = refused_settled seen rest TransferCoding (λ same. cc) is
+fault_left seen rest now ContentCoding left is = refused_settled seen rest ContentCoding (λ same. cc) is
+fault_left seen rest now NoLength left is = refused_settled seen rest NoLength (λ same. cc) is
+fault_left seen rest now BodyTooLong left is = refused_settled seen rest BodyTooLong (λ same. cc) is
+fault_left seen rest now CutShort left is =
+    let none : rest ≡ [] = ended_left rest now left is.1 in
+    subst (λ bytes. IsFraming bytes (refused CutShort)) (sym (append-nil seen) ∙ ap (λ more. seen ++ more) (sym none)) is.0
+fault_left seen rest now ReadFault left is = tt
+fault_left seen rest now Memory left is = tt
 
-answer_left : (seen rest kept : List ℕ) (result : Result (Option Request) EdgeFault) → Answers seen (Some rest) result kept
+answer_left : (seen rest kept : List ℕ) (now : Input) (result : Result (Option Request) EdgeFault) → now.left ≡ Some rest → Answers seen now result kept
     → IsFramingOf (seen ++ rest) result (Some (kept ++ rest))
-answer_left seen rest kept (Ok None) (nothing, end, none) = (
-  inl (rw (nothing, end) refl, refl),
-  rw (none, end) refl,
-)
-answer_left seen rest kept (Ok (Some r)) is = (kept ++ rest, request_settled seen rest kept r is, refl)
-answer_left seen rest kept (Err f) is = fault_left seen rest f is
+answer_left seen rest kept now (Ok None) left (nothing, ended, none) =
+    let end : rest ≡ [] = ended_left rest now left ended in (
+      inl (rw (nothing, end) refl, refl),
+      rw (none, end) refl,
+    )
+answer_left seen rest kept now (Ok (Some r)) left is = (kept ++ rest, request_settled seen rest kept r is, refl)
+answer_left seen rest kept now (Err f) left is = fault_left seen rest now f left is
 
-framing_left : {S : Type 0} (left : S → Option (List ℕ)) (faults : S → ℕ) (is_sure : S → Type 0) (old b : List ℕ) (before now : S) (result : Result (Option Request) EdgeFault) (new : List ℕ)
-    → AnswersTaken left faults is_sure old before result new now → left before ≡ Some b
-    → IsFramingOf (old ++ b) result (told_before new (left now))
-framing_left left faults is_sure old b before now result new is tells =
-    let cut = told_before_some is.taken b (left now) (sym tells ∙ is.told) in
-    let answer : Answers (old ++ is.taken) (Some cut.0) result new = subst (λ told. Answers (old ++ is.taken) told result new) cut.1 is.answer in
-    let framing : IsFramingOf ((old ++ is.taken) ++ cut.0) result (Some (new ++ cut.0)) = answer_left (old ++ is.taken) cut.0 new result answer in
+framing_left : (old b : List ℕ) (before now : Input) (result : Result (Option Request) EdgeFault) (new : List ℕ) → AnswersTaken old before result new now
+    → before.left ≡ Some b → IsFramingOf (old ++ b) result (with_front new now.left)
+framing_left old b before now result new is tells =
+    let cut = with_front_some is.taken b now.left (sym tells ∙ is.source.bytes) in
+    let framing : IsFramingOf ((old ++ is.taken) ++ cut.0) result (Some (new ++ cut.0)) = answer_left (old ++ is.taken) cut.0 new now result cut.1 is.answer in
     let same : (old ++ is.taken) ++ cut.0 ≡ old ++ b = append_assoc old is.taken cut.0 ∙ ap (λ more. old ++ more) (sym cut.2) in
     rw cut.1 (subst (λ bytes. IsFramingOf bytes result (Some (new ++ cut.0))) same framing)
 
--- where the source tells, the answer is that of what was left
-pub answered : {S : Type 0} (left : S → Option (List ℕ)) (faults : S → ℕ) (is_sure : S → Type 0) (old : List ℕ) (before now : S) (result : Result (Option Request) EdgeFault) (new : List ℕ)
-    → AnswersTaken left faults is_sure old before result new now
-    → IfSome (told_before old (left before)) (λ b. IsFramingOf b result (told_before new (left now)))
-answered left faults is_sure old before now result new is = by_case (left before) refl
+-- where the source reports what is left, the answer is that of what was left
+pub answered : (old : List ℕ) (before now : Input) (result : Result (Option Request) EdgeFault) (new : List ℕ) → AnswersTaken old before result new now
+    → IfSome (with_front old before.left) (λ b. IsFramingOf b result (with_front new now.left))
+answered old before now result new is = by_case before.left refl
   where
-    by_case : (told : Option (List ℕ)) → left before ≡ told → IfSome (told_before old told) (λ b. IsFramingOf b result (told_before new (left now)))
+    by_case : (left : Option (List ℕ)) → before.left ≡ left → IfSome (with_front old left) (λ b. IsFramingOf b result (with_front new now.left))
     by_case None none = tt
-    by_case (Some b) some = framing_left left faults is_sure old b before now result new is some
+    by_case (Some b) some = framing_left old b before now result new is some

@@ -2,7 +2,7 @@
 use Rattle.std.specs.Prelude.{ℕ, List, length, map}
 use Rattle.std.specs.Str.Lossy.{utf8_lossy}
 use Rattle.form_urlencoded.specs.Form.{raw_pairs, decode}
-use Rattle.http_edge.specs.declared.form.Field.{Field}
+use Rattle.http_edge.specs.declared.form_field.Field.{Field}
 
 -- a name or a value, decoded: what isn't UTF-8 becomes U+FFFD
 abbrev pub decoded : List ℕ → List ℕ

@@ -30,27 +30,27 @@ abbrev pub is_uncoded : Option (List ℕ) → Bool
 is_uncoded None = true
 is_uncoded (Some coding) = bytes_eq coding (codes "identity")
 
--- the length of a body, and 0 where none is told
+-- the length of a body, and 0 where none is stated
 abbrev pub body_length : Option (List ℕ) → ℕ
 body_length None = 0
 body_length (Some text) = digits_value 10 text
 
--- the length that the fields tell, the first where there are more
-abbrev pub told_length : List (List ℕ × List ℕ) → Option (List ℕ)
-told_length fields = first_value (values_of (codes "content-length") fields)
+-- the length that the fields state, the first where there are more
+abbrev pub stated_length : List (List ℕ × List ℕ) → Option (List ℕ)
+stated_length fields = first_value (values_of (codes "content-length") fields)
 
--- the coding that the fields tell
-abbrev pub told_coding : List (List ℕ × List ℕ) → Option (List ℕ)
-told_coding fields = first_value (values_of (codes "content-encoding") fields)
+-- the coding that the fields state
+abbrev pub stated_coding : List (List ℕ × List ℕ) → Option (List ℕ)
+stated_coding fields = first_value (values_of (codes "content-encoding") fields)
 
 -- the fault of a head whose method and fields are these, the first that holds
 unfoldable pub fault_of : List ℕ → List (List ℕ × List ℕ) → Option EdgeFault
 fault_of method fields =
-    if occurs_twice (codes "host") fields || occurs_twice (codes "content-length") fields || not (fits_length (told_length fields))
+    if occurs_twice (codes "host") fields || occurs_twice (codes "content-length") fields || not (fits_length (stated_length fields))
     then Some BadHead
     else (if nat_lt 100 (length fields) then Some HeadTooLong
     else (if occurs (codes "transfer-encoding") fields then Some TransferCoding
-    else (if not (is_uncoded (told_coding fields)) then Some ContentCoding
+    else (if not (is_uncoded (stated_coding fields)) then Some ContentCoding
     else (if bytes_eq method (codes "POST") && not (occurs (codes "content-length") fields) then Some NoLength
-    else (if nat_lt 2621440 (body_length (told_length fields)) then Some BodyTooLong
+    else (if nat_lt 2621440 (body_length (stated_length fields)) then Some BodyTooLong
     else None)))))

@@ -44,7 +44,7 @@ text_in (Some value) = as_text value
 abbrev pub first_text : List (List ℕ) → Option (List ℕ)
 first_text values = text_in (first_value values)
 
--- a value behind others
+-- a value after others
 abbrev pub behind_others : List ℕ → List ℕ
 behind_others value = codes "; " ++ value
 

@@ -9,7 +9,7 @@ use Rattle.http_edge.specs.declared.request.EdgeFault.TheVariants.{CutShort}
 abbrev pub FramingIsOne : Type 0
 FramingIsOne = (bytes : List ℕ) (x y : Framing) → IsFraming bytes x → IsFraming bytes y → x ≡ y
 
--- a request stands whatever bytes follow, and they are behind it
+-- a request stands whatever bytes follow, and they are after it
 abbrev pub RequestStands : Type 0
 RequestStands = (bytes more rest : List ℕ) (r : Request) → IsFraming bytes (request r rest) → IsFraming (bytes ++ more) (request r (rest ++ more))
 

@@ -3,7 +3,7 @@ use Rattle.std.specs.Prelude.{◌≡◌, ◌⊎◌, ℕ, ◌<◌, nat_lt, nat_le
 use Rattle.httparse.specs.Grammar.{RequestHead, print_request, HasNoRequest}
 use Rattle.http_edge.specs.Head.{front, HasHead, MayBeginHead}
 use Rattle.http_edge.specs.HeaderFields.{fields_of, request_of}
-use Rattle.http_edge.specs.HeadFault.{body_length, told_length, fault_of}
+use Rattle.http_edge.specs.HeadFault.{body_length, stated_length, fault_of}
 use Rattle.http_edge.specs.declared.request.EdgeFault.{EdgeFault}
 use Rattle.http_edge.specs.declared.request.EdgeFault.TheVariants.{BadHead, HeadTooLong, CutShort}
 use Rattle.http_edge.specs.declared.request.Request.{Request}
@@ -16,9 +16,9 @@ pub data Framing : Type 0 where
 
 -- the length that the head gives its body
 unfoldable pub length_of : RequestHead → ℕ
-length_of h = body_length (told_length (fields_of h))
+length_of h = body_length (stated_length (fields_of h))
 
--- behind a head without fault: its body, where it is whole
+-- after a head without fault: its body, where it is whole
 abbrev pub with_body : RequestHead → List ℕ → Framing
 with_body h after =
     if nat_lt (length after) (length_of h) then refused CutShort
@@ -29,7 +29,7 @@ abbrev pub unless_fault : Option EdgeFault → Framing → Framing
 unless_fault (Some fault) framing = refused fault
 unless_fault None framing = framing
 
--- behind a head
+-- after a head
 unfoldable pub after_head : RequestHead → List ℕ → Framing
 after_head h after = unless_fault (fault_of h.method (fields_of h)) (with_body h after)
 

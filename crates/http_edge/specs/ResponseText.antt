@@ -82,7 +82,7 @@ unfoldable pub context_lines : Response → List ℕ
 context_lines response =
     optional_line (codes "Location") response.location ++ optional_line (codes "Allow") response.allow
 
--- cookies, and what the browser and the connection are told
+-- cookies, and the fields for the browser and for the connection
 unfoldable pub control_lines : Response → List ℕ
 control_lines response =
     vary_line response.vary

@@ -4,8 +4,8 @@ use Rattle.httparse.specs.Grammar.{HasNoRequest}
 use Rattle.httparse.specs.Spans.{IsRequestWithin, IsRequestOf}
 use Rattle.httparse.specs.declared.spans.HeaderSpan.{HeaderSpan}
 use Rattle.http_edge.specs.Head.{MayBeginHead}
-use Rattle.http_edge.specs.declared.head.Sight.{Sight}
-use Rattle.http_edge.specs.declared.head.Sight.TheVariants.{Head, Begun, Never}
+use Rattle.http_edge.specs.declared.request_head.Sight.{Sight}
+use Rattle.http_edge.specs.declared.request_head.Sight.TheVariants.{Head, Begun, Never}
 
 -- a head is there, or may come, or never comes
 abbrev pub IsSight : List ℕ → List HeaderSpan → Sight → Type 0

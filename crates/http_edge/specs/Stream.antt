@@ -1,40 +1,38 @@
 -- What the calls that read do to the bytes that are kept and to the source, and what their faults say.
-use Rattle.std.specs.Prelude.{◌≡◌, ℕ, ◌≤◌, List, [], ◌++◌, Option, Some, None, Result, Ok, Err, ⊤}
-use Rattle.outside.specs.Bytes.{told_before, NothingLeft}
+use Rattle.std.specs.Prelude.{◌≡◌, ℕ, ◌<◌, List, [], ◌++◌, length, Option, Some, None, Result, Ok, Err, ⊤}
+use Rattle.outside.specs.Devices.{Input, HasRead, HasEnded}
+use Rattle.httparse.specs.Grammar.{HasNoRequest}
 use Rattle.httparse.specs.declared.spans.HeaderSpan.{HeaderSpan}
 use Rattle.httparse.specs.declared.spans.RequestSpans.{RequestSpans}
 use Rattle.httparse.specs.Spans.{IsRequestWithin, IsRequestOf}
-use Rattle.http_edge.specs.Head.{front}
+use Rattle.http_edge.specs.Head.{front, MayBeginHead}
 use Rattle.http_edge.specs.RequestFraming.{Framing, refused, request, IsFraming, IsOpen}
 use Rattle.http_edge.specs.declared.request.Request.{Request}
 use Rattle.http_edge.specs.declared.request.EdgeFault.{EdgeFault}
 use Rattle.http_edge.specs.declared.request.EdgeFault.TheVariants.{ReadFault, Memory, CutShort}
 
--- bytes were taken of the source, and stand behind those that were kept
-pub record ReadsOn {S : Type 0} (left : S → Option (List ℕ)) (faults : S → ℕ) (is_sure : S → Type 0)
-    (old : List ℕ) (before : S) (new : List ℕ) (now : S) : Type 0 where
+-- bytes were read of the source and appended to those that were kept
+pub record ReadsOn (old : List ℕ) (before : Input) (new : List ℕ) (now : Input) : Type 0 where
   pub taken : List ℕ
   pub kept : new ≡ old ++ taken
-  pub told : left before ≡ told_before taken (left now)
-  pub count : faults before ≤ faults now
-  pub sure : is_sure before → is_sure now
+  pub source : HasRead before now taken
 
 -- the bytes have no request yet, and more bytes can give one
 abbrev pub WaitsForMore : List ℕ → Type 0
 WaitsForMore bytes = (framing : Framing) × IsFraming bytes framing × IsOpen framing
 
 -- the fault is that of the bytes, whatever comes, and a cut one only where nothing is left
-abbrev pub IsFaultOf : List ℕ → Option (List ℕ) → EdgeFault → Type 0
-IsFaultOf bytes told Memory = ⊤
-IsFaultOf bytes told ReadFault = WaitsForMore bytes
-IsFaultOf bytes told CutShort = IsFraming bytes (refused CutShort) × NothingLeft told
-IsFaultOf bytes told fault = IsFraming bytes (refused fault)
+abbrev pub IsFaultOf : List ℕ → Input → EdgeFault → Type 0
+IsFaultOf bytes now Memory = ⊤
+IsFaultOf bytes now ReadFault = WaitsForMore bytes
+IsFaultOf bytes now CutShort = IsFraming bytes (refused CutShort) × HasEnded now
+IsFaultOf bytes now fault = IsFraming bytes (refused fault)
 
 -- a head, the end, or a fault
-abbrev pub FindsHead : List ℕ → List HeaderSpan → Option (List ℕ) → Result (Option RequestSpans) EdgeFault → Type 0
-FindsHead bytes spans told (Ok (Some found)) = IsRequestWithin (front bytes) spans found × IsRequestOf (front bytes) spans found
-FindsHead bytes spans told (Ok None) = (bytes ≡ []) × NothingLeft told
-FindsHead bytes spans told (Err fault) = IsFaultOf bytes told fault
+abbrev pub FindsHead : List ℕ → List HeaderSpan → Input → Result (Option RequestSpans) EdgeFault → Type 0
+FindsHead bytes spans now (Ok (Some found)) = IsRequestWithin (front bytes) spans found × IsRequestOf (front bytes) spans found
+FindsHead bytes spans now (Ok None) = (bytes ≡ []) × HasEnded now
+FindsHead bytes spans now (Err fault) = IsFaultOf bytes now fault
 
 -- a fault of a head by itself
 abbrev pub IsHeadFault : EdgeFault → Type 0
@@ -43,17 +41,26 @@ IsHeadFault ReadFault = ⊥
 IsHeadFault Memory = ⊥
 IsHeadFault fault = ⊤
 
--- what was seen is answered, and behind a request the bytes after it are kept
-abbrev pub Answers : List ℕ → Option (List ℕ) → Result (Option Request) EdgeFault → List ℕ → Type 0
-Answers seen told (Ok None) kept = (seen ≡ []) × NothingLeft told × (kept ≡ [])
-Answers seen told (Ok (Some r)) kept = IsFraming seen (request r kept)
-Answers seen told (Err fault) kept = IsFaultOf seen told fault
+-- no head is there yet, and there is room for one
+pub record IsBegun (bytes : List ℕ) : Type 0 where
+  pub none : HasNoRequest (front bytes)
+  pub may : MayBeginHead (front bytes)
+  pub short : length bytes < 16384
 
--- bytes were taken of the source, and those that were kept and they are answered
-pub record AnswersTaken {S : Type 0} (left : S → Option (List ℕ)) (faults : S → ℕ) (is_sure : S → Type 0)
-    (old : List ℕ) (before : S) (result : Result (Option Request) EdgeFault) (new : List ℕ) (now : S) : Type 0 where
+-- a head, none yet, or the fault of the bytes
+abbrev pub IsLook : List ℕ → List HeaderSpan → Result (Option RequestSpans) EdgeFault → Type 0
+IsLook bytes spans (Ok (Some found)) = IsRequestWithin (front bytes) spans found × IsRequestOf (front bytes) spans found
+IsLook bytes spans (Ok None) = IsBegun bytes
+IsLook bytes spans (Err fault) = IsHeadFault fault × IsFraming bytes (refused fault)
+
+-- what was seen is answered, and the bytes after a request are kept
+abbrev pub Answers : List ℕ → Input → Result (Option Request) EdgeFault → List ℕ → Type 0
+Answers seen now (Ok None) kept = (seen ≡ []) × HasEnded now × (kept ≡ [])
+Answers seen now (Ok (Some r)) kept = IsFraming seen (request r kept)
+Answers seen now (Err fault) kept = IsFaultOf seen now fault
+
+-- bytes were read of the source, and they are answered with those that were kept
+pub record AnswersTaken (old : List ℕ) (before : Input) (result : Result (Option Request) EdgeFault) (new : List ℕ) (now : Input) : Type 0 where
   pub taken : List ℕ
-  pub told : left before ≡ told_before taken (left now)
-  pub answer : Answers (old ++ taken) (left now) result new
-  pub count : faults before ≤ faults now
-  pub sure : is_sure before → is_sure now
+  pub source : HasRead before now taken
+  pub answer : Answers (old ++ taken) now result new

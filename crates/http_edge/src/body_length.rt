@@ -5,14 +5,14 @@ ghost use Rattle.std.specs.List.{list_all};
 ghost use Rattle.std.specs.Char.{is_ascii_digit};
 ghost use Rattle.std.specs.Str.Parse.{digits_value};
 ghost use Rattle.httparse.specs.Spans.{IsRequestWithin, IsHeaderWithin, span_bytes, header_bytes};
-ghost use Rattle.http_edge.specs.HeadFault.{fault_of, body_length, told_length, told_coding, is_length, fits_length, is_uncoded};
+ghost use Rattle.http_edge.specs.HeadFault.{fault_of, body_length, stated_length, stated_coding, is_length, fits_length, is_uncoded};
 ghost use Rattle.http_edge.specs.Stream.{IsHeadFault};
 
 use crate::EdgeFault;
-use crate::header::{count_named, first_named};
+use crate::header_fields::{count_named, first_named};
 use httparse::spans::{HeaderSpan, RequestSpans};
 
-const MOST_FIELDS: usize = 100;
+const MOST_HEADER_FIELDS: usize = 100;
 
 const LONGEST_BODY: usize = 2_621_440;
 
@@ -43,11 +43,11 @@ fn number(text: &[u8]) -> usize
     value
 }
 
-// The length that the fields tell, where it is one.
-fn length_told(head: &[u8], fields: &[HeaderSpan]) -> Result<usize, EdgeFault>
+// The length that the fields state, where it is one.
+fn length_stated(head: &[u8], fields: &[HeaderSpan]) -> Result<usize, EdgeFault>
     requires { All (IsHeaderWithin (length head.now)) fields.now }
-    ensures { let told = told_length (map (header_bytes head.now) fields.now) in
-        MatchResult result (λ n. (fits_length told ≡ true) × (n ≡ body_length told)) (λ fault. (fits_length told ≡ false) × (fault ≡ EdgeFault.BadHead)) }
+    ensures { let stated = stated_length (map (header_bytes head.now) fields.now) in
+        MatchResult result (λ n. (fits_length stated ≡ true) × (n ≡ body_length stated)) (λ fault. (fits_length stated ≡ false) × (fault ≡ EdgeFault.BadHead)) }
 {
     match first_named(head, fields, b"content-length") {
         None => Ok(0),
@@ -58,7 +58,7 @@ fn length_told(head: &[u8], fields: &[HeaderSpan]) -> Result<usize, EdgeFault>
 
 fn has_coding(head: &[u8], fields: &[HeaderSpan]) -> bool
     requires { All (IsHeaderWithin (length head.now)) fields.now }
-    ensures { result ≡ not (is_uncoded (told_coding (map (header_bytes head.now) fields.now))) }
+    ensures { result ≡ not (is_uncoded (stated_coding (map (header_bytes head.now) fields.now))) }
 {
     match first_named(head, fields, b"content-encoding") {
         Some(coding) => coding != b"identity".as_slice(),
@@ -77,14 +77,14 @@ fn body_length_or_fault(
     ensures fault { let all = map (header_bytes head.now) fields.now in
         MatchResult result (λ n. fault_of method.now all ≡ None) (λ f. fault_of method.now all ≡ Some f) }
     ensures length { let all = map (header_bytes head.now) fields.now in
-        MatchResult result (λ n. (n ≡ body_length (told_length all)) × (n ≤ 2621440)) IsHeadFault }
+        MatchResult result (λ n. (n ≡ body_length (stated_length all)) × (n ≤ 2621440)) IsHeadFault }
 {
     let lengths = count_named(head, fields, b"content-length");
     if count_named(head, fields, b"host") > 1 || lengths > 1 {
         return Err(EdgeFault::BadHead);
     }
-    let length = length_told(head, fields)?;
-    if fields.len() > MOST_FIELDS {
+    let length = length_stated(head, fields)?;
+    if fields.len() > MOST_HEADER_FIELDS {
         return Err(EdgeFault::HeadTooLong);
     }
     if count_named(head, fields, b"transfer-encoding") > 0 {
@@ -103,7 +103,7 @@ fn body_length_or_fault(
 }
 
 /// The length of the body, or the first fault of the head.
-pub fn length_behind(
+pub(crate) fn length_behind(
     head: &[u8],
     spans: &[HeaderSpan],
     found: RequestSpans,
@@ -113,7 +113,7 @@ pub fn length_behind(
         MatchResult result (λ n. fault_of (span_bytes head.now found.method) fields ≡ None)
         (λ f. fault_of (span_bytes head.now found.method) fields ≡ Some f) }
     ensures length { let fields = map (header_bytes head.now) (take found.headers spans.now) in
-        MatchResult result (λ n. (n ≡ body_length (told_length fields)) × (n ≤ 2621440)) IsHeadFault }
+        MatchResult result (λ n. (n ≡ body_length (stated_length fields)) × (n ≤ 2621440)) IsHeadFault }
 {
     body_length_or_fault(found.method.of(head), head, &spans[..found.headers])
 }

@@ -3,23 +3,21 @@
 #![tactic(auto)]
 
 mod body_length;
-mod fill;
-mod form;
-mod head;
-mod header;
+mod form_field;
+mod head_watch;
+mod header_fields;
 mod laws;
+mod pieces;
 mod plan;
-mod read;
 mod reader;
 mod request;
+mod request_head;
 mod response;
-mod take;
 #[cfg(test)]
 mod tests;
 
-pub use crate::form::{Field, FieldFault, field_count, form_fields};
+pub use crate::form_field::{Field, FieldFault, field_count, form_fields};
 pub use crate::laws::{framing_is_one, framing_stands};
-pub use crate::read::read_request;
-pub use crate::reader::Reader;
+pub use crate::reader::{Reader, read_request};
 pub use crate::request::{EdgeFault, Method, Request};
 pub use crate::response::{Response, is_status, response_text};

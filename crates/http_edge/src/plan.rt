@@ -7,7 +7,7 @@ ghost use Rattle.http_edge.specs.HeaderFields.{method_of, is_question_mark, requ
 ghost use Rattle.http_edge.specs.Plan.{IsPlan, RefusesHead};
 
 use crate::body_length::length_behind;
-use crate::header::{cookies_of, has_close, has_form, text_named};
+use crate::header_fields::{cookies_of, has_close, has_form, text_named};
 use crate::{EdgeFault, Method, Request};
 use crypto_text::{Bytes, Text};
 use httparse::spans::{HeaderSpan, RequestSpans};
@@ -16,7 +16,7 @@ use std::str::from_utf8;
 
 /// A request without its body.
 #[derive(Drop)]
-pub struct Plan {
+pub(crate) struct Plan {
     pub request: Request,
     /// Where the body begins.
     pub len: usize,
@@ -38,7 +38,7 @@ fn method_of(name: &[u8]) -> Method
     }
 }
 
-// The target up to its first question mark, what stands behind it, and whether there is one.
+// The target up to its first question mark, what follows it, and whether there is one.
 fn cut_target(target: &[u8]) -> (&str, &str, bool)
     requires { IsUtf8 target.now }
     ensures path { result.0.now ≡ before_first is_question_mark target.now }
@@ -87,7 +87,7 @@ fn request_without_body(
 }
 
 /// What the head says, or its fault.
-pub fn make_plan(
+pub(crate) fn make_plan(
     alloc: Global,
     first: &[u8],
     spans: &[HeaderSpan],
@@ -125,7 +125,7 @@ fn cut_front(bytes: &mut Vec<u8>, n: usize)
 }
 
 /// Takes the request's bytes away and makes it, once its body is there.
-pub fn finish(alloc: Global, bytes: &mut Vec<u8>, plan: Plan) -> Result<Request, AllocError>
+pub(crate) fn finish(alloc: Global, bytes: &mut Vec<u8>, plan: Plan) -> Result<Request, AllocError>
     requires ordered { plan.len ≤ plan.total }
     requires whole { plan.total ≤ length bytes.old.items }
     ensures rest { IfOk result (λ r. bytes.new.items ≡ drop plan.total bytes.old.items) }

@@ -1,10 +1,14 @@
-//! A reader of requests, which keeps what it has read past a request.
+//! Requests, one after another from a stream.
 
-ghost use Rattle.std.specs.Prelude.{◌≡◌, [], IfOk, IsErrOf};
+ghost use Rattle.std.specs.Prelude.{◌≡◌, ◌<◌, [], IfOk, IfSome, IsErrOf, length, true};
+ghost use Rattle.outside.specs.Devices.{with_front};
 ghost use Rattle.outside.specs.Faults.{Rose};
+ghost use Rattle.http_edge.specs.Reader.{IsFramingOf};
 ghost use Rattle.http_edge.specs.Stream.{AnswersTaken};
 
-use crate::take::take_request;
+use crate::pieces::{fill_to, find_head};
+use crate::plan::{finish, make_plan};
+use crate::request_head::first_bytes;
 use crate::{EdgeFault, Request};
 use httparse::spans::{EMPTY_HEADER_SPAN, HeaderSpan};
 use outside::Source;
@@ -30,7 +34,8 @@ impl Model for Reader {
 }
 
 impl Reader {
-    /// A reader that keeps nothing yet. Its buffers are made once for all requests.
+    /// A reader that keeps nothing yet. Its buffers are made once for all requests, with room for more fields than
+    /// a head within the limit has.
     pub fn new(alloc: Global) -> Result<Reader, AllocError>
         ensures { IfOk result (λ reader. reader ≡ []) }
     {
@@ -41,14 +46,14 @@ impl Reader {
         })
     }
 
-    /// Takes the next request off what is kept and what the source has left.
-    pub(crate) fn take<S: Source>(
+    // Takes the next request off what is kept and what the source has left.
+    fn take<S: Source>(
         &mut self,
         alloc: Global,
         source: &mut S,
     ) -> Result<Option<Request>, EdgeFault>
-        ensures answer { AnswersTaken S.left S.read_faults S.is_sure self.old source.old result self.new source.new }
-        ensures cause { IsErrOf result EdgeFault.ReadFault → Rose (S.read_faults source.old) (S.read_faults source.new) }
+        ensures answer { AnswersTaken self.old (S.seen source.old) result self.new (S.seen source.new) }
+        ensures cause { IsErrOf result EdgeFault.ReadFault → Rose (S.seen source.old).faults (S.seen source.new).faults }
     {
         take_request(
             alloc,
@@ -59,3 +64,48 @@ impl Reader {
         )
     }
 }
+
+/// Reads the next request of what is left: what the reader keeps, and then what its source has left. `None` is
+/// the end. One reader serves one source, and neither is used again after a refusal.
+pub fn read_request<S: Source>(
+    alloc: Global,
+    reader: &mut Reader,
+    source: &mut S,
+) -> Result<Option<Request>, EdgeFault>
+    // It is what the bytes that were left begin with, in whatever pieces they come, and the bytes after it are left.
+    ensures value { IfSome (with_front reader.old (S.seen source.old).left)
+        (λ left. IsFramingOf left result (with_front reader.new (S.seen source.new).left)) }
+    // The same of the bytes that were taken, where the source doesn't report. Before a failed read no request is there.
+    ensures reads { AnswersTaken reader.old (S.seen source.old) result reader.new (S.seen source.new) }
+    // A source that never fails gives no such fault.
+    ensures never_fails { (S.seen source.old).never_fails ≡ true → IsErrOf result EdgeFault.ReadFault → ⊥ }
+    ensures read_fault { IsErrOf result EdgeFault.ReadFault → Rose (S.seen source.old).faults (S.seen source.new).faults }
+{
+    reader.take(alloc, source)
+}
+
+// Takes the next request off the bytes, and reads on for it where they are too few.
+fn take_request<S: Source>(
+    alloc: Global,
+    bytes: &mut Vec<u8>,
+    spans: &mut [HeaderSpan],
+    piece: &mut [u8],
+    source: &mut S,
+) -> Result<Option<Request>, EdgeFault>
+    requires room { length spans.old ≡ 5461 }
+    requires piece { 0 < length piece.old }
+    ensures answer { AnswersTaken bytes.old.items (S.seen source.old) result bytes.new.items (S.seen source.new) }
+    ensures cause { IsErrOf result EdgeFault.ReadFault → Rose (S.seen source.old).faults (S.seen source.new).faults }
+{
+    let Some(found) = find_head(bytes, spans, piece, source)? else {
+        return Ok(None);
+    };
+    let plan = make_plan(alloc, first_bytes(bytes), spans, found)?;
+    if !fill_to(bytes, plan.total, piece, source)? {
+        return Err(EdgeFault::CutShort);
+    }
+    Ok(Some(finish(alloc, bytes, plan)?))
+}
+
+#[cfg(test)]
+mod tests;

@@ -1,12 +1,13 @@
-//! What is read, and what stands in the place of a request.
+//! Requests, and why there is none.
 
 ghost use Rattle.std.specs.Prelude.{◌≡◌};
 ghost use Rattle.http_edge.specs.declared.request.EdgeFault.TheVariants.{Memory};
 
 use crypto_text::{Bytes, Text};
 use std::alloc::{AllocError, AllocFailed};
+use thiserror::Error;
 
-/// The methods that routes tell apart. Their names count byte for byte.
+/// The methods that routes distinguish. Their names count byte for byte.
 #[derive(Clone, Copy, Debug, PartialEq, Eq)]
 pub enum Method {
     Get,
@@ -19,7 +20,7 @@ pub enum Method {
 #[derive(Debug, Drop)]
 pub struct Request {
     pub method: Method,
-    /// The target up to its first question mark, and what stands behind it.
+    /// The target up to its first question mark, and what comes after it.
     pub path: Text,
     pub query: Text,
     pub has_query: bool,
@@ -39,24 +40,27 @@ pub struct Request {
     pub keep: bool,
 }
 
-/// Why there is no request. They are told in this order, but for the last three.
-#[derive(Clone, Copy, Debug, PartialEq, Eq)]
+/// Why there is no request. They are reported in this order, but for the last three.
+#[derive(Clone, Copy, Debug, PartialEq, Eq, Error)]
 pub enum EdgeFault {
-    /// The bytes can't begin a head, or a host or length stands twice, or a length isn't one to fifteen digits.
+    #[error("the bytes begin no request head, or its host or length is there twice or malformed")]
     BadHead,
-    /// No head ends within 16,384 bytes, or it has more than 100 fields.
+    #[error("no request head ends within 16,384 bytes, or it has more than 100 fields")]
     HeadTooLong,
-    /// There is a `Transfer-Encoding`, so the body may be chunked.
+    #[error("the request has a Transfer-Encoding")]
     TransferCoding,
-    /// The body is coded.
+    #[error("the body of the request is coded")]
     ContentCoding,
-    /// A POST without length.
+    #[error("the request is a POST without a Content-Length")]
     NoLength,
-    /// The body has more than 2,621,440 bytes, as Django's `DATA_UPLOAD_MAX_MEMORY_SIZE`.
+    /// As Django's `DATA_UPLOAD_MAX_MEMORY_SIZE`.
+    #[error("the body of the request has more than 2,621,440 bytes")]
     BodyTooLong,
-    /// The input ended inside a head or a body.
+    #[error("the input ended inside a request")]
     CutShort,
+    #[error("the source failed")]
     ReadFault,
+    #[error("out of memory")]
     Memory,
 }
 

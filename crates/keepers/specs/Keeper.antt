@@ -1,25 +1,34 @@
--- What a keeper of the store reports of what it holds, and what its calls do to that.
-use Rattle.std.specs.Prelude.{◌≢◌, ◌<◌, ◌≤◌, ◌^◌, ℕ, List, [], ◌∷◌, ◌++◌, fold, Result, IsErrOf, ⊤}
+-- What a keeper of the store reports of itself, and what its calls do to that.
+use Rattle.std.specs.Prelude.{◌≡◌, ◌≢◌, ◌<◌, ◌^◌, ◌+◌, ℕ, List, [], ◌∷◌, ◌++◌, fold, length, Option, Result, Ok, Err, IfOk, OnOk, IfErr, ⊤}
 use Rattle.outside.specs.Faults.{Rose}
-use Rattle.ledger_rows.specs.State.{State, opening_state}
+use Rattle.ledger_rows.specs.Tables.{Tables, opening_tables}
+use Rattle.ledger_rows.specs.Rows.{IsNumber}
 use Rattle.ledger_rows.specs.declared.entry.Entry.{Entry}
 use Rattle.ledger_rows.specs.declared.rows.Opening.{Opening}
 use Rattle.keepers.specs.declared.change.Change.{Change}
 use Rattle.keepers.specs.declared.change.Change.TheVariants.{PutBoot}
 use Rattle.keepers.specs.declared.keeper.KeeperFault.{KeeperFault}
-use Rattle.keepers.specs.declared.keeper.KeeperFault.TheVariants.{Failed}
+use Rattle.keepers.specs.declared.keeper.KeeperFault.TheVariants.{Failed, Memory}
 
--- what is kept: the state that it began with, the tables now, and the audit list
+-- what a store holds: what it began with, its tables now, and its audit list
 pub record Contents : Type 0 where
-  pub opening : State
-  pub tables : State
+  pub opening : Opening
+  pub tables : Tables
   pub entries : List Entry
 
--- what a keeper reports: nothing at all, as a real database; that it is new; or what it holds
+-- what a keeper reports of its store: nothing at all, as a real database; that it is new; or what it holds
 pub data Report : Type 0 where
   Unreported : Report
   Fresh : Report
   Holding : Contents → Report
+
+-- what is seen of a keeper
+pub record Kept : Type 0 where
+  pub report : Report
+  -- how many entries the audit list has
+  pub entry_count : ℕ
+  -- how many calls have failed
+  pub faults : ℕ
 
 -- a fact about what is held, where that is reported
 abbrev pub OnHolding : Report → (Contents → Type 0) → Type 0
@@ -27,7 +36,7 @@ OnHolding Unreported P = ⊤
 OnHolding Fresh P = ⊤
 OnHolding (Holding contents) P = P contents
 
--- nothing was installed yet, where that is reported
+-- it doesn't report that it holds something
 abbrev pub MayBeFresh : Report → Type 0
 MayBeFresh Unreported = ⊤
 MayBeFresh Fresh = ⊤
@@ -37,39 +46,72 @@ MayBeFresh (Holding contents) = ⊥
 abbrev pub MayHold : Report → Type 0
 MayHold report = report ≢ Fresh
 
--- a new keeper, once it was given what a new store begins with
+-- a store that is reported has as many entries as its list, and a new one none
+abbrev pub IsCounted : Report → ℕ → Type 0
+IsCounted Unreported count = ⊤
+IsCounted Fresh count = count ≡ 0
+IsCounted (Holding contents) count = count ≡ length contents.entries
+
+-- what a refusal does to the count of faults: it rose where the store failed, and else it is the same
+abbrev pub CountsFault : KeeperFault → ℕ → ℕ → Type 0
+CountsFault Failed before now = Rose before now
+CountsFault Memory before now = now ≡ before
+
+-- a call was refused: the store is as it was
+pub record IsRefused (old new : Kept) (fault : KeeperFault) : Type 0 where
+  pub report : new.report ≡ old.report
+  pub entries : new.entry_count ≡ old.entry_count
+  pub faults : CountsFault fault old.faults new.faults
+
+-- a call that only reads
+abbrev pub OnlyReads : {T : Type 0} → Kept → Kept → Result T KeeperFault → Type 0
+OnlyReads old new (Ok value) = new ≡ old
+OnlyReads old new (Err fault) = IsRefused old new fault
+
+-- the answer is what the tables hold, where they are reported
+abbrev pub Answers : {T : Type 0} → Kept → Result T KeeperFault → (Tables → T) → Type 0
+Answers kept result value_in = IfOk result (λ value. OnHolding kept.report (λ contents. value ≡ value_in contents.tables))
+
+-- a new store holds its opening rows and no entry
+abbrev pub opened : Opening → Contents
+opened opening = record { opening = opening; tables = opening_tables opening; entries = [] }
+
+-- the report after an opening was put into a store that was new
 abbrev pub installed : Opening → Report → Report
 installed opening Unreported = Unreported
-installed opening Fresh = Holding (record { opening = opening_state opening; tables = opening_state opening; entries = [] })
+installed opening Fresh = Holding (opened opening)
 installed opening (Holding contents) = Holding contents
 
--- the tables after one change
-abbrev pub table_after : State → Change → State
-table_after tables (PutBoot boot) = record tables { boot = boot }
+-- a call that puts in an opening
+abbrev pub Installs : {T : Type 0} → Opening → Kept → Kept → Result T KeeperFault → Type 0
+Installs opening old new (Ok done) = new ≡ record old { report = installed opening old.report }
+Installs opening old new (Err fault) = IsRefused old new fault
 
--- the tables after changes, in order
-abbrev pub tables_after : List Change → State → State
-tables_after changes tables = fold table_after tables changes
+-- the tables with one change
+abbrev pub changed : Tables → Change → Tables
+changed tables (PutBoot boot) = record tables { boot = boot }
 
--- the changes were made, and the entry stands behind the list
+-- the tables with all changes, made in order
+abbrev pub changed_by : List Change → Tables → Tables
+changed_by changes tables = fold changed tables changes
+
+-- the changes were made and the entry was appended
+abbrev pub appended : Entry → List Change → Contents → Contents
+appended entry changes contents = record contents {
+  tables = changed_by changes contents.tables;
+  entries = contents.entries ++ entry ∷ [];
+}
+
 abbrev pub committed : Entry → List Change → Report → Report
 committed entry changes Unreported = Unreported
 committed entry changes Fresh = Fresh
-committed entry changes (Holding contents) = Holding (record {
-  opening = contents.opening;
-  tables = tables_after changes contents.tables;
-  entries = contents.entries ++ entry ∷ [];
-})
+committed entry changes (Holding contents) = Holding (appended entry changes contents)
 
--- boot numbers and ids are below this
-abbrev pub IsNumber : ℕ → Type 0
-IsNumber n = n < 2 ^ 62
+-- a call that makes changes and appends an entry, all or nothing
+abbrev pub Commits : {T : Type 0} → Entry → List Change → Kept → Kept → Result T KeeperFault → Type 0
+Commits entry changes old new (Ok done) = new ≡ record old { report = committed entry changes old.report; entry_count = old.entry_count + 1 }
+Commits entry changes old new (Err fault) = IsRefused old new fault
 
--- a change whose numbers may be kept
-abbrev pub IsSound : Change → Type 0
-IsSound (PutBoot boot) = IsNumber boot
-
--- the count of faults has not fallen, and a failure means that it rose
-pub record HasStoreCause {T : Type 0} (before now : ℕ) (result : Result T KeeperFault) : Type 0 where
-  pub count : before ≤ now
-  pub cause : IsErrOf result Failed → Rose before now
+-- a change whose row and numbers are sound
+abbrev pub IsSoundChange : Change → Type 0
+IsSoundChange (PutBoot boot) = IsNumber boot

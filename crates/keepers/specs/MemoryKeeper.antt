@@ -1,31 +1,38 @@
--- What a keeper in memory holds.
-use Rattle.std.specs.Prelude.{ℕ, Option, Some, None, length}
-use Rattle.ledger_rows.specs.State.{State}
-use Rattle.keepers.specs.Keeper.{Report, Fresh, Holding}
-use Rattle.keepers.specs.declared.memory_keeper.Store.{Store}
-use Rattle.keepers.specs.declared.memory_keeper.Tables.{Tables}
+-- A keeper in memory, which numbers its calls from 0 and fails at those that are listed.
+use Rattle.std.specs.Prelude.{◌≡◌, ◌↔◌, ℕ, List, Option, Some, None, Result, length, Contains, IsErrOf, refl}
+use Rattle.outside.specs.Faults.{one_more}
+use Rattle.keepers.specs.Keeper.{Contents, Kept, Report, Fresh, Holding, IsCounted}
+use Rattle.keepers.specs.declared.keeper.KeeperFault.{KeeperFault}
+use Rattle.keepers.specs.declared.keeper.KeeperFault.TheVariants.{Failed}
 
--- the tables as a state
-abbrev pub state_of : Tables → State
-state_of tables = record {
-  keys = tables.keys;
-  users = tables.users;
-  groups = tables.groups;
-  perms = tables.perms;
-  sessions = tables.sessions;
-  boot = tables.boot;
-}
+pub record MemoryKeeper : Type 0 where
+  -- what it holds; nothing while it is new
+  pub store : Option Contents
+  -- the numbers of the calls that fail
+  pub fail_at : List ℕ
+  -- the number of the next call
+  pub number : ℕ
+  pub faults : ℕ
 
--- what is reported of a store, or of none
-abbrev pub report_of : Option Store → Report
+abbrev pub report_of : Option Contents → Report
 report_of None = Fresh
-report_of (Some store) = Holding (record {
-  opening = state_of store.opening;
-  tables = state_of store.tables;
-  entries = store.entries.items;
-})
+report_of (Some contents) = Holding contents
 
--- how many entries stand in the audit list of a store, or of none
-abbrev pub entry_count_of : Option Store → ℕ
+abbrev pub entry_count_of : Option Contents → ℕ
 entry_count_of None = 0
-entry_count_of (Some store) = length store.entries.items
+entry_count_of (Some contents) = length contents.entries
+
+-- what it reports
+abbrev pub kept_of : MemoryKeeper → Kept
+kept_of k = record { report = report_of k.store; entry_count = entry_count_of k.store; faults = k.faults }
+
+pub report_of-counted : (store : Option Contents) → IsCounted (report_of store) (entry_count_of store)
+report_of-counted None = refl
+report_of-counted (Some contents) = refl
+
+-- one more call was made, which failed where its number is listed
+pub record HasCalled {T : Type 0} (old new : MemoryKeeper) (result : Result T KeeperFault) : Type 0 where
+  pub failed : IsErrOf result Failed ↔ Contains old.fail_at old.number
+  pub count : IsErrOf result Failed → new.faults ≡ one_more old.faults
+  pub number : new.number ≡ one_more old.number
+  pub fail_at : new.fail_at ≡ old.fail_at

@@ -6,6 +6,7 @@
 mod change;
 mod keeper;
 mod memory_keeper;
+mod memory_tables;
 #[cfg(test)]
 mod tests;
 

@@ -1,19 +1,24 @@
 //! A keeper in memory, which reports all that it holds.
 
-ghost use Rattle.std.specs.Prelude.{◌≡◌, ◌≤◌, ◌↔◌, All, ◌++◌, [], ◌∷◌, Contains, IfOk, IfSome, IsErr, IsErrOf, OnErr, OnOk, length, option_map, slice_get};
+ghost use Rattle.std.specs.Prelude.{◌≡◌, ◌≤◌, ◌<◌, ◌^◌, ◌↔◌, All, ◌++◌, [], ◌∷◌, Contains, IfOk, IfSome, IsErr, IsErrOf, IsNone, IsTrue, MatchBool, None, OnErr, OnOk, length};
 ghost use Rattle.outside.specs.Faults.{one_more};
-ghost use Rattle.keepers.specs.Keeper.{HasStoreCause, IsNumber, IsSound, tables_after};
-ghost use Rattle.ledger_rows.specs.State.{opening_state, session_of, user_of};
+ghost use Rattle.ledger_rows.specs.History.{entry_at};
+ghost use Rattle.ledger_rows.specs.Opening.{IsOpening};
+ghost use Rattle.ledger_rows.specs.Rows.{IsNumber, IsSoundSession, IsSoundUser};
+ghost use Rattle.ledger_rows.specs.Tables.{opening_tables, session_of, user_of};
+ghost use Rattle.keepers.specs.Keeper.{Answers, Commits, Installs, IsSoundChange, MayBeFresh, MayHold, OnHolding, OnlyReads, changed_by};
+ghost use Rattle.keepers.specs.MemoryKeeper.{HasCalled, entry_count_of, kept_of, report_of};
 
 use crate::change::Change;
 use crate::keeper::{Keeper, KeeperFault};
+use crate::memory_tables::MemTables;
 use crypto_text::Ids;
-use ledger_rows::{Entry, Opening, RowList, SessionRow, UserRow};
-use permissions::{GroupRow, PermRow};
+use ledger_rows::{Entry, Opening, SessionRow, UserRow};
 use signing_core::Keys;
 use std::alloc::{AllocError, Global};
+use std::marker::Model;
 
-/// Tables and audit list in memory. Its calls are numbered from 0, and chosen ones fail.
+/// Tables and audit list in memory. The calls that can fail are numbered from 0, and chosen ones fail.
 #[derive(Drop)]
 pub struct MemKeeper {
     store: Option<Store>,
@@ -23,20 +28,9 @@ pub struct MemKeeper {
 /// What was installed, what has become of it, and the audit list.
 #[derive(Drop)]
 struct Store {
-    opening: Tables,
-    tables: Tables,
+    opening: Opening,
+    tables: MemTables,
     entries: Vec<Entry>,
-}
-
-#[derive(Drop)]
-struct Tables {
-    keys: Keys,
-    users: RowList<UserRow>,
-    groups: RowList<GroupRow>,
-    perms: RowList<PermRow>,
-    sessions: RowList<SessionRow>,
-    boot: u64,
-    ghost sound: { IsNumber boot },
 }
 
 /// The number of the next call, and which calls fail.
@@ -47,14 +41,26 @@ struct Calls {
     faults: u64,
 }
 
-impl MemKeeper {
-    ghost use Rattle.keepers.specs.Keeper.{Fresh, OnHolding};
-    ghost use Rattle.keepers.specs.MemoryKeeper.{entry_count_of, report_of};
+impl Model for MemKeeper {
+    ghost use Rattle.std.specs.Prelude.{option_map};
+    ghost use Rattle.keepers.specs.MemoryKeeper.{MemoryKeeper};
 
-    /// A new keeper. A call fails where its number stands in `fail_at`; the calls that can fail are
-    /// numbered from 0.
+    ghost Value = { MemoryKeeper };
+
+    ghost use Rattle.keepers.specs.MemoryStore.{contents_of};
+
+    ghost view = { λ k. record {
+      store = option_map contents_of k.store;
+      fail_at = k.calls.fail_at;
+      number = k.calls.number;
+      faults = k.calls.faults;
+    } };
+}
+
+impl MemKeeper {
+    /// A new keeper. A call fails where its number is in `fail_at`.
     pub fn new(_alloc: Global, fail_at: Ids) -> MemKeeper
-        ensures { report_of result.store ≡ Fresh }
+        ensures { result ≡ record { store = None; fail_at = fail_at; number = 0; faults = 0 } }
     {
         MemKeeper {
             store: None,
@@ -68,7 +74,7 @@ impl MemKeeper {
 
     /// The audit list; it is empty while the keeper is new.
     pub fn entries(&self) -> &[Entry]
-        ensures value { OnHolding (report_of self.now.store) (λ contents. result.now ≡ contents.entries) }
+        ensures value { OnHolding (kept_of self.now).report (λ contents. result.now ≡ contents.entries) }
         ensures len { length result.now ≡ entry_count_of self.now.store }
     {
         match &self.store {
@@ -81,10 +87,12 @@ impl MemKeeper {
 impl Calls {
     // One more call, which may be one of those that fail.
     fn pass(&mut self) -> Result<(), KeeperFault>
-        ensures failed { IsErr result ↔ Contains self.old.fail_at self.old.number }
-        ensures number { self.new.number ≡ one_more self.old.number }
+        ensures failed { IsErrOf result KeeperFault.Failed ↔ Contains self.old.fail_at self.old.number }
         ensures no_memory { IsErrOf result KeeperFault.Memory → ⊥ }
-        ensures faults { HasStoreCause self.old.faults self.new.faults result }
+        ensures ok { OnOk result (self.new.faults ≡ self.old.faults) }
+        ensures err { OnErr result (self.new.faults ≡ one_more self.old.faults) }
+        ensures number { self.new.number ≡ one_more self.old.number }
+        ensures fail_at { self.new.fail_at ≡ self.old.fail_at }
     {
         let fails = self.fail_at.items().contains(&self.number);
         self.number = self.number.saturating_add(1);
@@ -96,45 +104,26 @@ impl Calls {
     }
 }
 
-impl Tables {
-    ghost use Rattle.keepers.specs.MemoryKeeper.{state_of};
+impl Store {
+    ghost use Rattle.keepers.specs.Keeper.{appended, opened};
+    ghost use Rattle.keepers.specs.MemoryStore.{contents_of};
 
-    fn of(alloc: Global, opening: &Opening) -> Result<Tables, AllocError>
-        ensures { IfOk result (λ tables. state_of tables ≡ opening_state opening.now) }
+    fn of(alloc: Global, opening: &Opening) -> Result<Store, AllocError>
+        requires { IsOpening opening.now }
+        ensures { IfOk result (λ store. contents_of store ≡ opened opening.now) }
     {
-        Ok(Tables {
-            keys: opening.keys.copy(alloc)?,
-            users: opening.users.copy(alloc)?,
-            groups: opening.groups.copy(alloc)?,
-            perms: opening.perms.copy(alloc)?,
-            sessions: opening.sessions.copy(alloc)?,
-            boot: 0,
+        Ok(Store {
+            opening: opening.copy(alloc)?,
+            tables: MemTables::of(alloc, opening)?,
+            entries: Vec::new(alloc),
         })
     }
 
-    fn change(&mut self, changes: &[Change])
-        requires { All IsSound changes.now }
-        ensures { state_of self.new ≡ tables_after changes.now (state_of self.old) }
-    {
-        for change in changes {
-            match change {
-                Change::PutBoot(boot) => self.boot = *boot,
-            }
-        }
-    }
-}
-
-impl Store {
-    ghost use Rattle.keepers.specs.MemoryKeeper.{state_of};
-
     // The room for the entry comes first, so that a refusal changes nothing.
     fn commit(&mut self, entry: Entry, changes: &[Change]) -> Result<(), AllocError>
-        requires { All IsSound changes.now }
-        ensures opening { self.new.opening ≡ self.old.opening }
-        ensures entries { OnOk result (self.new.entries.items ≡ self.old.entries.items ++ entry ∷ []) }
-        ensures tables { OnOk result (state_of self.new.tables ≡ tables_after changes.now (state_of self.old.tables)) }
-        ensures same_entries { OnErr result (self.new.entries.items ≡ self.old.entries.items) }
-        ensures same_tables { OnErr result (self.new.tables ≡ self.old.tables) }
+        requires { All IsSoundChange changes.now }
+        ensures ok { OnOk result (contents_of self.new ≡ appended entry changes.now (contents_of self.old)) }
+        ensures err { OnErr result (contents_of self.new ≡ contents_of self.old) }
     {
         self.entries.push(entry)?;
         self.tables.change(changes);
@@ -143,66 +132,100 @@ impl Store {
 }
 
 impl Keeper for MemKeeper {
-    ghost use Rattle.keepers.specs.MemoryKeeper.{entry_count_of, report_of};
+    ghost use Rattle.keepers.specs.MemoryKeeper.{kept_of, report_of-counted};
 
-    ghost report = { λ k. report_of k.store };
+    ghost seen = { kept_of };
 
-    ghost entry_count = { λ k. entry_count_of k.store };
+    ghost counted = { λ k. report_of-counted k.store };
 
-    ghost faults = { λ k. k.calls.faults };
-
-    fn is_new(&mut self) -> Result<bool, KeeperFault> {
+    fn is_new(&mut self) -> Result<bool, KeeperFault>
+        ensures value { IfOk result (λ is_new. MatchBool is_new (MayBeFresh (kept_of self.old).report) (MayHold (kept_of self.old).report)) }
+        ensures reads { OnlyReads (kept_of self.old) (kept_of self.new) result }
+        ensures call { HasCalled self.old self.new result }
+    {
         self.calls.pass()?;
         Ok(self.store.is_none())
     }
 
-    fn install(&mut self, alloc: Global, opening: &Opening) -> Result<(), KeeperFault> {
+    fn install(&mut self, alloc: Global, opening: &Opening) -> Result<(), KeeperFault>
+        requires opening { IsOpening opening.now }
+        requires new { MayBeFresh (kept_of self.old).report }
+        ensures installs { Installs opening.now (kept_of self.old) (kept_of self.new) result }
+        ensures call { HasCalled self.old self.new result }
+    {
         self.calls.pass()?;
-        let store = Store {
-            opening: Tables::of(alloc, opening)?,
-            tables: Tables::of(alloc, opening)?,
-            entries: Vec::new(alloc),
-        };
+        let store = Store::of(alloc, opening)?;
         self.store = Some(store);
         Ok(())
     }
 
-    fn boots(&mut self) -> Result<u64, KeeperFault> {
+    fn boots(&mut self) -> Result<u64, KeeperFault>
+        requires { MayHold (kept_of self.old).report }
+        ensures value { Answers (kept_of self.old) result (λ tables. tables.boot) }
+        ensures sound { IfOk result IsNumber }
+        ensures reads { OnlyReads (kept_of self.old) (kept_of self.new) result }
+        ensures call { HasCalled self.old self.new result }
+    {
         self.calls.pass()?;
         match &self.store {
-            Some(store) => Ok(store.tables.boot),
+            Some(store) => Ok(store.tables.boots()),
             None => unreachable!(),
         }
     }
 
-    fn keys(&mut self, alloc: Global) -> Result<Keys, KeeperFault> {
+    fn keys(&mut self, alloc: Global) -> Result<Keys, KeeperFault>
+        requires { MayHold (kept_of self.old).report }
+        ensures value { Answers (kept_of self.old) result (λ tables. tables.keys) }
+        ensures reads { OnlyReads (kept_of self.old) (kept_of self.new) result }
+        ensures call { HasCalled self.old self.new result }
+    {
         self.calls.pass()?;
         match &self.store {
-            Some(store) => Ok(store.tables.keys.copy(alloc)?),
+            Some(store) => Ok(store.tables.keys().copy(alloc)?),
             None => unreachable!(),
         }
     }
 
-    fn user_by_id(&mut self, alloc: Global, id: u64) -> Result<Option<UserRow>, KeeperFault> {
+    fn user_by_id(&mut self, alloc: Global, id: u64) -> Result<Option<UserRow>, KeeperFault>
+        requires { MayHold (kept_of self.old).report }
+        ensures value { Answers (kept_of self.old) result (λ tables. user_of tables.users id) }
+        ensures asked { IfOk result (λ row. IfSome row (λ user. user.id ≡ id)) }
+        ensures sound { IfOk result (λ row. IfSome row IsSoundUser) }
+        ensures reads { OnlyReads (kept_of self.old) (kept_of self.new) result }
+        ensures call { HasCalled self.old self.new result }
+    {
         self.calls.pass()?;
         match &self.store {
-            Some(store) => Ok(user_of(alloc, store.tables.users.items(), id)?),
+            Some(store) => Ok(store.tables.user_by_id(alloc, id)?),
             None => unreachable!(),
         }
     }
 
-    fn session(&mut self, alloc: Global, key: &str) -> Result<Option<SessionRow>, KeeperFault> {
+    fn session(&mut self, alloc: Global, key: &str) -> Result<Option<SessionRow>, KeeperFault>
+        requires { MayHold (kept_of self.old).report }
+        ensures value { Answers (kept_of self.old) result (λ tables. session_of tables.sessions key.now) }
+        ensures asked { IfOk result (λ row. IfSome row (λ session. session.key ≡ key.now)) }
+        ensures sound { IfOk result (λ row. IfSome row IsSoundSession) }
+        ensures reads { OnlyReads (kept_of self.old) (kept_of self.new) result }
+        ensures call { HasCalled self.old self.new result }
+    {
         self.calls.pass()?;
         match &self.store {
-            Some(store) => Ok(session_of(alloc, store.tables.sessions.items(), key)?),
+            Some(store) => Ok(store.tables.session(alloc, key)?),
             None => unreachable!(),
         }
     }
 
-    fn entry_at(&mut self, alloc: Global, place: u64) -> Result<Option<Entry>, KeeperFault> {
+    fn entry_at(&mut self, alloc: Global, index: u64) -> Result<Option<Entry>, KeeperFault>
+        requires { MayHold (kept_of self.old).report }
+        ensures value { IfOk result (λ entry. OnHolding (kept_of self.old).report (λ contents. entry ≡ entry_at contents.entries index)) }
+        ensures none { IfOk result (λ entry. IsNone entry ↔ ((kept_of self.old).entry_count ≤ index)) }
+        ensures reads { OnlyReads (kept_of self.old) (kept_of self.new) result }
+        ensures call { HasCalled self.old self.new result }
+    {
         self.calls.pass()?;
         match &self.store {
-            Some(store) => Ok(copy_at(alloc, store.entries.as_slice(), place)?),
+            Some(store) => Ok(copy_at(alloc, store.entries.as_slice(), index)?),
             None => unreachable!(),
         }
     }
@@ -212,7 +235,13 @@ impl Keeper for MemKeeper {
         alloc: Global,
         entry: &Entry,
         changes: &[Change],
-    ) -> Result<(), KeeperFault> {
+    ) -> Result<(), KeeperFault>
+        requires holds { MayHold (kept_of self.old).report }
+        requires room { (kept_of self.old).entry_count < 2 ^ 62 }
+        requires sound { All IsSoundChange changes.now }
+        ensures commits { Commits entry.now changes.now (kept_of self.old) (kept_of self.new) result }
+        ensures call { HasCalled self.old self.new result }
+    {
         self.calls.pass()?;
         let entry = entry.copy(alloc)?;
         match &mut self.store {
@@ -233,60 +262,13 @@ impl Keeper for MemKeeper {
     }
 }
 
-fn copy_at(alloc: Global, entries: &[Entry], place: u64) -> Result<Option<Entry>, AllocError>
-    ensures { IfOk result (λ entry. entry ≡ slice_get entries.now place) }
+fn copy_at(alloc: Global, entries: &[Entry], index: u64) -> Result<Option<Entry>, AllocError>
+    ensures value { IfOk result (λ entry. entry ≡ entry_at entries.now index) }
+    ensures none { IfOk result (λ entry. IsNone entry ↔ (length entries.now ≤ index)) }
 {
-    if place >= entries.len() as u64 {
+    if index >= entries.len() as u64 {
         return Ok(None);
     }
-    let entry = entries[place as usize].copy(alloc)?;
+    let entry = entries[index as usize].copy(alloc)?;
     Ok(Some(entry))
-}
-
-fn user_of(alloc: Global, users: &[UserRow], id: u64) -> Result<Option<UserRow>, AllocError>
-    ensures value { IfOk result (λ row. row ≡ user_of users.now id) }
-    ensures asked { IfOk result (λ row. IfSome row (λ user. user.id ≡ id)) }
-{
-    match found_user(users, id) {
-        Some(user) => Ok(Some(user.copy(alloc)?)),
-        None => Ok(None),
-    }
-}
-
-fn found_user(users: &[UserRow], id: u64) -> Option<&UserRow>
-    ensures value { option_map (λ user. user.now) result ≡ user_of users.now id }
-    ensures asked { IfSome result (λ user. user.now.id ≡ id) }
-{
-    for user in users {
-        if user.id == id {
-            return Some(user);
-        }
-    }
-    None
-}
-
-fn session_of(
-    alloc: Global,
-    sessions: &[SessionRow],
-    key: &str,
-) -> Result<Option<SessionRow>, AllocError>
-    ensures value { IfOk result (λ row. row ≡ session_of sessions.now key.now) }
-    ensures asked { IfOk result (λ row. IfSome row (λ session. session.key ≡ key.now)) }
-{
-    match found_session(sessions, key) {
-        Some(session) => Ok(Some(session.copy(alloc)?)),
-        None => Ok(None),
-    }
-}
-
-fn found_session<'a>(sessions: &'a [SessionRow], key: &str) -> Option<&'a SessionRow>
-    ensures value { option_map (λ session. session.now) result ≡ session_of sessions.now key.now }
-    ensures asked { IfSome result (λ session. session.now.key ≡ key.now) }
-{
-    for session in sessions {
-        if session.key.as_str() == key {
-            return Some(session);
-        }
-    }
-    None
 }

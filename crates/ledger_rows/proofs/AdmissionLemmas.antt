@@ -17,15 +17,17 @@ use Rattle.session_codec.specs.declared.session_text.SessionKind.TheVariants.{St
 use Rattle.ledger_rows.specs.Admission.{IsAdmitted, admits, auth_hash, auth_in, backend_of, found_map, found_text, found_user, is_short, key_index, live_text, map_in, named_user, session_map, session_text, verdict_of, verdict_on, verdict_on_auth, verdict_on_backend, verdict_on_hash, verdict_on_user}
 use Rattle.ledger_rows.specs.Backends.{path_of}
 use Rattle.ledger_rows.specs.Laws.{LoadAdmitsExactly}
-use Rattle.ledger_rows.specs.State.{State, session_of, user_of}
+use Rattle.ledger_rows.specs.State.{State, rows_of}
+use Rattle.ledger_rows.specs.Tables.{session_of, user_of}
 use Rattle.ledger_rows.specs.declared.rows.Backend.{Backend}
 use Rattle.ledger_rows.specs.declared.rows.Backend.TheVariants.{Model, AllowAll}
+use Rattle.ledger_rows.specs.declared.rows.Cfg.{Cfg}
 use Rattle.ledger_rows.specs.declared.rows.SessionRow.{SessionRow}
 use Rattle.ledger_rows.specs.declared.rows.UserRow.{UserRow}
 use Rattle.ledger_rows.specs.declared.verdict.Verdict.{Verdict}
 use Rattle.ledger_rows.specs.declared.verdict.Verdict.TheVariants.{NoCookie, NotStored, Inactive, Admitted}
 
--- ---- backwards: what stands where a verdict admits
+-- ---- backwards: what holds where a verdict admits
 
 on_hash : (found : Option ℕ) (index : ℕ) → verdict_on_hash found ≡ Admitted index → found ≡ Some index
 on_hash None index is = absurd (cc is)
@@ -189,23 +191,30 @@ no_key_fits keys password hash none =
     (λ within. absurd (omega (arith, within))) in
     rw place (rw (le-ltb (length keys) (length keys) (omega arith)) refl)
 
+-- the stored hash is the one under the key that admits
+pub admitted_hash : (backends : List Backend) (keys : List (List ℕ)) (auth : SessionAuth) (user : UserRow) (index : ℕ)
+    → verdict_on_auth backends keys (Some auth) (Some user) ≡ Admitted index → auth_hash user.password (key_at keys index) ≡ auth.hash
+admitted_hash backends keys auth user index is =
+    let backend = on_backend (backend_of backends auth.backend) keys auth.hash (Some user) index is in
+    (on_key keys user.password auth.hash index (on_user backend.0 keys auth.hash (Some user) user index backend.2 refl).1).1
+
 -- ---- both ways
 
-admits_user : (backends : List Backend) (state : State) (cookie : Option (List ℕ)) (now : ℕ) (user : UserRow) (index : ℕ)
-    → verdict_of backends state cookie now ≡ Admitted index → found_user state cookie now ≡ Some user → IsAdmitted backends state cookie now user index
-admits_user backends state cookie now user index is found =
-    let lines = on_text backends state.keys cookie (found_text state cookie now) (found_map state cookie now) (found_user state cookie now) user index is found in
+admits_user : (cfg : Cfg) (state : State) (cookie : Option (List ℕ)) (now : ℕ) (user : UserRow) (index : ℕ)
+    → verdict_of cfg state cookie now ≡ Admitted index → found_user cfg.engine state cookie now ≡ Some user → IsAdmitted cfg state cookie now user index
+admits_user cfg state cookie now user index is found =
+    let lines = on_text cfg.backends state.tables.keys cookie (found_text cfg.engine state cookie now) (found_map cfg.engine state cookie now) (found_user cfg.engine state cookie now) user index is found in
     let text = lines.0 in
     let map = lines.1 in
     let auth = lines.2 in
     let judged = lines.6 in
-    let stored = on_stored state.sessions cookie now text lines.3 in
-    let read : decoded Stored state.keys now text ≡ Ok map = on_map state.keys now text (decoded Stored state.keys now text) map (ap (session_map state.keys now) (sym lines.3) ∙ lines.4) in
-    let encoded = decoded-encodes Stored state.keys now text map read in
-    let named : user_of state.users auth.user ≡ Some user
-    = ap (named_user state.users) (sym (ap auth_in lines.4 ∙ lines.5)) ∙ found in
-    let path = on_path backends auth.backend judged.backend judged.configured in
-    let key = on_key state.keys user.password auth.hash index judged.hash in
+    let stored = on_stored (rows_of cfg.engine state) cookie now text lines.3 in
+    let read : decoded Stored state.tables.keys now text ≡ Ok map = on_map state.tables.keys now text (decoded Stored state.tables.keys now text) map (ap (session_map state.tables.keys now) (sym lines.3) ∙ lines.4) in
+    let encoded = decoded-encodes Stored state.tables.keys now text map read in
+    let named : user_of state.tables.users auth.user ≡ Some user
+    = ap (named_user state.tables.users) (sym (ap auth_in lines.4 ∙ lines.5)) ∙ found in
+    let path = on_path cfg.backends auth.backend judged.backend judged.configured in
+    let key = on_key state.tables.keys user.password auth.hash index judged.hash in
     record {
       key = stored.key;
       row = stored.row;
@@ -217,7 +226,7 @@ admits_user backends state cookie now user index is found =
       long = stored.long;
       stored = stored.stored;
       unexpired = stored.unexpired;
-      reads = subst (λ t. Encodes Stored state.keys t map encoded.0) (sym stored.text_is) encoded.1;
+      reads = subst (λ t. Encodes Stored state.tables.keys t map encoded.0) (sym stored.text_is) encoded.1;
       login = lines.5;
       configured = path.0;
       path = path.1;
@@ -229,42 +238,42 @@ admits_user backends state cookie now user index is found =
     }
 
 -- what is found, in the order in which it is found
-admitted_text : (backends : List Backend) (state : State) (cookie : Option (List ℕ)) (now : ℕ) (user : UserRow) (index : ℕ)
-    → (a : IsAdmitted backends state cookie now user index) → found_text state cookie now ≡ Some a.row.text
-admitted_text backends state cookie now user index a =
+admitted_text : (cfg : Cfg) (state : State) (cookie : Option (List ℕ)) (now : ℕ) (user : UserRow) (index : ℕ)
+    → (a : IsAdmitted cfg state cookie now user index) → found_text cfg.engine state cookie now ≡ Some a.row.text
+admitted_text cfg state cookie now user index a =
     rw a.cookie_is (rw (le-ltb (length a.key) 8 a.long) (rw a.stored (rw (lt-ltb now a.row.expire a.unexpired) refl)))
 
-admitted_map : (backends : List Backend) (state : State) (cookie : Option (List ℕ)) (now : ℕ) (user : UserRow) (index : ℕ)
-    → (a : IsAdmitted backends state cookie now user index) → found_map state cookie now ≡ Some a.map
-admitted_map backends state cookie now user index a =
-    ap (session_map state.keys now) (admitted_text backends state cookie now user index a)
-    ∙ ap map_in (encodes-decoded Stored state.keys now a.row.text a.map (a.time, a.reads, tt))
+admitted_map : (cfg : Cfg) (state : State) (cookie : Option (List ℕ)) (now : ℕ) (user : UserRow) (index : ℕ)
+    → (a : IsAdmitted cfg state cookie now user index) → found_map cfg.engine state cookie now ≡ Some a.map
+admitted_map cfg state cookie now user index a =
+    ap (session_map state.tables.keys now) (admitted_text cfg state cookie now user index a)
+    ∙ ap map_in (encodes-decoded Stored state.tables.keys now a.row.text a.map (a.time, a.reads, tt))
 
-admitted_auth : (backends : List Backend) (state : State) (cookie : Option (List ℕ)) (now : ℕ) (user : UserRow) (index : ℕ)
-    → (a : IsAdmitted backends state cookie now user index) → auth_in (found_map state cookie now) ≡ Some a.auth
-admitted_auth backends state cookie now user index a = ap auth_in (admitted_map backends state cookie now user index a) ∙ a.login
+admitted_auth : (cfg : Cfg) (state : State) (cookie : Option (List ℕ)) (now : ℕ) (user : UserRow) (index : ℕ)
+    → (a : IsAdmitted cfg state cookie now user index) → auth_in (found_map cfg.engine state cookie now) ≡ Some a.auth
+admitted_auth cfg state cookie now user index a = ap auth_in (admitted_map cfg state cookie now user index a) ∙ a.login
 
-admitted_user : (backends : List Backend) (state : State) (cookie : Option (List ℕ)) (now : ℕ) (user : UserRow) (index : ℕ)
-    → (a : IsAdmitted backends state cookie now user index) → found_user state cookie now ≡ Some user
-admitted_user backends state cookie now user index a = ap (named_user state.users) (admitted_auth backends state cookie now user index a) ∙ a.named
+admitted_user : (cfg : Cfg) (state : State) (cookie : Option (List ℕ)) (now : ℕ) (user : UserRow) (index : ℕ)
+    → (a : IsAdmitted cfg state cookie now user index) → found_user cfg.engine state cookie now ≡ Some user
+admitted_user cfg state cookie now user index a = ap (named_user state.tables.users) (admitted_auth cfg state cookie now user index a) ∙ a.named
 
 -- the last lines
-admitted_line : (backends : List Backend) (state : State) (cookie : Option (List ℕ)) (now : ℕ) (user : UserRow) (index : ℕ)
-    → (a : IsAdmitted backends state cookie now user index) → verdict_on_auth backends state.keys (Some a.auth) (Some user) ≡ Admitted index
-admitted_line backends state cookie now user index a =
-    let configured : backend_of backends a.auth.backend ≡ Some a.backend = ap (backend_of backends) (sym a.path) ∙ to_path backends a.backend a.configured in
-    rw configured (rw a.admitted (rw (key_is_first state.keys user.password a.auth.hash index a.present a.hash a.first) refl))
+admitted_line : (cfg : Cfg) (state : State) (cookie : Option (List ℕ)) (now : ℕ) (user : UserRow) (index : ℕ)
+    → (a : IsAdmitted cfg state cookie now user index) → verdict_on_auth cfg.backends state.tables.keys (Some a.auth) (Some user) ≡ Admitted index
+admitted_line cfg state cookie now user index a =
+    let configured : backend_of cfg.backends a.auth.backend ≡ Some a.backend = ap (backend_of cfg.backends) (sym a.path) ∙ to_path cfg.backends a.backend a.configured in
+    rw configured (rw a.admitted (rw (key_is_first state.tables.keys user.password a.auth.hash index a.present a.hash a.first) refl))
 
-is_admitted : (backends : List Backend) (state : State) (cookie : Option (List ℕ)) (now : ℕ) (user : UserRow) (index : ℕ)
-    → IsAdmitted backends state cookie now user index → verdict_of backends state cookie now ≡ Admitted index
-is_admitted backends state cookie now user index a =
-    rw (admitted_user backends state cookie now user index a)
-    (rw (admitted_map backends state cookie now user index a)
-    (rw (admitted_text backends state cookie now user index a)
-    (rw a.login (admitted_line backends state cookie now user index a))))
+is_admitted : (cfg : Cfg) (state : State) (cookie : Option (List ℕ)) (now : ℕ) (user : UserRow) (index : ℕ)
+    → IsAdmitted cfg state cookie now user index → verdict_of cfg state cookie now ≡ Admitted index
+is_admitted cfg state cookie now user index a =
+    rw (admitted_user cfg state cookie now user index a)
+    (rw (admitted_map cfg state cookie now user index a)
+    (rw (admitted_text cfg state cookie now user index a)
+    (rw a.login (admitted_line cfg state cookie now user index a))))
 
 pub load_admits_exactly : LoadAdmitsExactly
-load_admits_exactly backends state cookie now user index = (
-  λ found. admits_user backends state cookie now user index found.0 found.1,
-  λ a. (is_admitted backends state cookie now user index a, admitted_user backends state cookie now user index a),
+load_admits_exactly cfg state cookie now user index = (
+  λ found. admits_user cfg state cookie now user index found.0 found.1,
+  λ a. (is_admitted cfg state cookie now user index a, admitted_user cfg state cookie now user index a),
 )

@@ -1,2 +1,4 @@
 pub mod HistoryLemmas
+pub mod TableLemmas
+pub mod OpeningLemmas
 pub mod AdmissionLemmas

@@ -6,12 +6,16 @@ use Rattle.serde_json.specs.Data.{Members}
 use Rattle.signing_core.specs.Keys.{key_at}
 use Rattle.session_codec.specs.SessionMap.{SessionAuth, auth_of}
 use Rattle.session_codec.specs.SessionText.{Encodes, decoded}
+use Rattle.session_codec.specs.declared.auth_part.AuthPart.{AuthPart}
 use Rattle.session_codec.specs.declared.session_text.DecodeFault.{DecodeFault}
 use Rattle.session_codec.specs.declared.session_text.SessionKind.TheVariants.{Stored}
 use Rattle.ledger_rows.specs.Backends.{path_of}
-use Rattle.ledger_rows.specs.State.{State, session_of, user_of}
+use Rattle.ledger_rows.specs.State.{State, rows_of}
+use Rattle.ledger_rows.specs.Tables.{session_of, user_of}
 use Rattle.ledger_rows.specs.declared.rows.Backend.{Backend}
 use Rattle.ledger_rows.specs.declared.rows.Backend.TheVariants.{Model, AllowAll}
+use Rattle.ledger_rows.specs.declared.rows.Cfg.{Cfg}
+use Rattle.ledger_rows.specs.declared.rows.Engine.{Engine}
 use Rattle.ledger_rows.specs.declared.rows.SessionRow.{SessionRow}
 use Rattle.ledger_rows.specs.declared.rows.UserRow.{UserRow}
 use Rattle.ledger_rows.specs.declared.verdict.Verdict.{Verdict}
@@ -75,7 +79,12 @@ abbrev pub admits : Backend → UserRow → Bool
 admits Model user = user.active
 admits AllowAll user = true
 
--- the place of the first key under which the hash is that of the password text
+-- a login that was lent
+abbrev pub login_of : Option AuthPart → Option SessionAuth
+login_of None = None
+login_of (Some part) = Some (record { user = part.user; backend = part.backend.now; hash = part.hash.now })
+
+-- the index of the first key under which the hash is that of the password text
 abbrev pub key_index : List (List ℕ) → List ℕ → List ℕ → Option ℕ
 key_index keys password hash = position (λ key. bytes_eq (auth_hash password key) hash) keys
 
@@ -104,24 +113,25 @@ verdict_on backends keys cookie (Some text) None user = Corrupt
 verdict_on backends keys cookie (Some text) (Some map) user = verdict_on_auth backends keys (auth_of map) user
 
 -- what a load finds in a state: the text, the session and the user
-abbrev pub found_text : State → Option (List ℕ) → ℕ → Option (List ℕ)
-found_text state cookie now = session_text state.sessions cookie now
+abbrev pub found_text : Engine → State → Option (List ℕ) → ℕ → Option (List ℕ)
+found_text engine state cookie now = session_text (rows_of engine state) cookie now
 
-abbrev pub found_map : State → Option (List ℕ) → ℕ → Option Members
-found_map state cookie now = session_map state.keys now (found_text state cookie now)
+abbrev pub found_map : Engine → State → Option (List ℕ) → ℕ → Option Members
+found_map engine state cookie now = session_map state.tables.keys now (found_text engine state cookie now)
 
-abbrev pub found_user : State → Option (List ℕ) → ℕ → Option UserRow
-found_user state cookie now = named_user state.users (auth_in (found_map state cookie now))
+abbrev pub found_user : Engine → State → Option (List ℕ) → ℕ → Option UserRow
+found_user engine state cookie now = named_user state.tables.users (auth_in (found_map engine state cookie now))
 
 -- the verdict of a load
-abbrev pub verdict_of : List Backend → State → Option (List ℕ) → ℕ → Verdict
-verdict_of backends state cookie now =
-    verdict_on backends state.keys cookie (found_text state cookie now) (found_map state cookie now) (found_user state cookie now)
+abbrev pub verdict_of : Cfg → State → Option (List ℕ) → ℕ → Verdict
+verdict_of cfg state cookie now =
+    verdict_on cfg.backends state.tables.keys cookie (found_text cfg.engine state cookie now) (found_map cfg.engine state cookie now)
+    (found_user cfg.engine state cookie now)
 
--- a cookie admits a user, by the key at a place: a session is stored under the cookie and isn't over; its text reads under
+-- a cookie admits a user, by the key at an index: a session is stored under the cookie and isn't over; its text reads under
 -- a present key as a map with a login; the login's backend is configured and admits the user whom it names; and its hash
--- is that of the user's present password text under the key at this place, and under none before
-pub record IsAdmitted (backends : List Backend) (state : State) (cookie : Option (List ℕ)) (now : ℕ) (user : UserRow) (index : ℕ) : Type 0 where
+-- is that of the user's present password text under the key at this index, and under none before
+pub record IsAdmitted (cfg : Cfg) (state : State) (cookie : Option (List ℕ)) (now : ℕ) (user : UserRow) (index : ℕ) : Type 0 where
   pub key : List ℕ
   pub row : SessionRow
   pub map : Members
@@ -130,14 +140,14 @@ pub record IsAdmitted (backends : List Backend) (state : State) (cookie : Option
   pub backend : Backend
   pub cookie_is : cookie ≡ Some key
   pub long : 8 ≤ length key
-  pub stored : session_of state.sessions key ≡ Some row
+  pub stored : session_of (rows_of cfg.engine state) key ≡ Some row
   pub unexpired : now < row.expire
-  pub reads : Encodes Stored state.keys row.text map time
+  pub reads : Encodes Stored state.tables.keys row.text map time
   pub login : auth_of map ≡ Some auth
-  pub configured : Contains backends backend
+  pub configured : Contains cfg.backends backend
   pub path : path_of backend ≡ auth.backend
-  pub named : user_of state.users auth.user ≡ Some user
+  pub named : user_of state.tables.users auth.user ≡ Some user
   pub admitted : admits backend user ≡ true
-  pub present : index < length state.keys
-  pub hash : auth_hash user.password (key_at state.keys index) ≡ auth.hash
-  pub first : (place : ℕ) → place < index → auth_hash user.password (key_at state.keys place) ≢ auth.hash
+  pub present : index < length state.tables.keys
+  pub hash : auth_hash user.password (key_at state.tables.keys index) ≡ auth.hash
+  pub first : (earlier : ℕ) → earlier < index → auth_hash user.password (key_at state.tables.keys earlier) ≢ auth.hash

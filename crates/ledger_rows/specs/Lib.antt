@@ -1,9 +1,12 @@
 -- What the public contracts of this crate and of those above it cite.
+pub mod Tables
 pub mod State
 pub mod Backends
 pub mod Admission
 pub mod Form
+pub mod Rows
 pub mod Step
+pub mod Replies
 pub mod Opening
 pub mod History
 pub mod Laws

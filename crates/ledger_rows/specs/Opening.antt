@@ -1,7 +1,9 @@
 -- When the rows that a new store begins with are well formed. This project's own.
-use Rattle.std.specs.Prelude.{◌≡◌, ◌≢◌, ◌^◌, ◌≤◌, ℕ, List, [], ◌∷◌, None, map}
-use Rattle.std.specs.List.{All, AllPairs, Contains}
+use Rattle.std.specs.Prelude.{◌≡◌, ◌^◌, ◌≤◌, ℕ, List, [], ◌∷◌, None, map}
+use Rattle.std.specs.List.{All, Contains}
 use Rattle.std.specs.List.Sorted.{IsStrictlyIncreasing}
+use Rattle.crypto_text.specs.Moment.{IsMoment}
+use Rattle.crypto_text.specs.TextList.{AreDifferent}
 use Rattle.pass_hashers.specs.PasswordText.{IsPasswordText}
 use Rattle.permissions.specs.PermissionSet.{name_of}
 use Rattle.permissions.specs.declared.rows.GroupRow.{GroupRow}
@@ -13,9 +15,8 @@ use Rattle.session_codec.specs.declared.session_text.SessionKind.TheVariants.{St
 use Rattle.ledger_rows.specs.Admission.{auth_hash}
 use Rattle.ledger_rows.specs.Backends.{path_of}
 use Rattle.ledger_rows.specs.Form.{IsEmail, IsPermissionWord, IsSessionKey, IsUserName}
-use Rattle.ledger_rows.specs.State.{State}
-use Rattle.ledger_rows.specs.Step.{IsMoment}
 use Rattle.ledger_rows.specs.declared.rows.Backend.{Backend}
+use Rattle.ledger_rows.specs.declared.rows.Opening.{Opening}
 use Rattle.ledger_rows.specs.declared.rows.SessionRow.{SessionRow}
 use Rattle.ledger_rows.specs.declared.rows.UserRow.{UserRow}
 
@@ -40,10 +41,6 @@ names_of_perms perms = map name_of perms
 
 abbrev pub keys_of_sessions : List SessionRow → List (List ℕ)
 keys_of_sessions sessions = map (λ (row : SessionRow). row.key) sessions
-
--- no two of the texts are the same
-abbrev pub AreDifferent : List (List ℕ) → Type 0
-AreDifferent texts = AllPairs (λ a b. a ≢ b) texts
 
 -- from 1 to 2^32
 pub record IsId (id : ℕ) : Type 0 where
@@ -100,28 +97,27 @@ pub record AreOpeningPerms (perms : List PermRow) : Type 0 where
 abbrev pub login_text : UserRow → Backend → List ℕ → ℕ → List ℕ
 login_text user backend key moment = text_of Stored (auth_members user.id (path_of backend) (auth_hash user.password key)) (key ∷ []) moment
 
--- the text is that of a user of the state, under a key of the state
-pub record IsLoginText (state : State) (text : List ℕ) : Type 0 where
+-- the text is that of a user of the opening, under a key of the opening
+pub record IsLoginText (opening : Opening) (text : List ℕ) : Type 0 where
   pub user : UserRow
   pub backend : Backend
   pub key : List ℕ
   pub moment : ℕ
-  pub listed : Contains state.users user
-  pub held : Contains state.keys key
+  pub listed : Contains opening.users user
+  pub held : Contains opening.keys key
   pub began : IsMoment moment
   pub whole : text ≡ login_text user backend key moment
 
-pub record IsOpeningSession (state : State) (row : SessionRow) : Type 0 where
+pub record IsOpeningSession (opening : Opening) (row : SessionRow) : Type 0 where
   pub key : IsSessionKey row.key
   pub expire : IsMoment row.expire
-  pub text : IsLoginText state row.text
+  pub text : IsLoginText opening row.text
 
 -- what a store may begin with
-pub record IsOpening (state : State) : Type 0 where
-  pub keys : IsKeys state.keys
-  pub users : AreOpeningUsers (ids_of_groups state.groups) (ids_of_perms state.perms) state.users
-  pub groups : AreOpeningGroups (ids_of_perms state.perms) state.groups
-  pub perms : AreOpeningPerms state.perms
-  pub session_keys : AreDifferent (keys_of_sessions state.sessions)
-  pub sessions : All (IsOpeningSession state) state.sessions
-  pub boot : state.boot ≡ 0
+pub record IsOpening (opening : Opening) : Type 0 where
+  pub keys : IsKeys opening.keys
+  pub users : AreOpeningUsers (ids_of_groups opening.groups) (ids_of_perms opening.perms) opening.users
+  pub groups : AreOpeningGroups (ids_of_perms opening.perms) opening.groups
+  pub perms : AreOpeningPerms opening.perms
+  pub session_keys : AreDifferent (keys_of_sessions opening.sessions)
+  pub sessions : All (IsOpeningSession opening) opening.sessions

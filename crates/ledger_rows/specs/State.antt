@@ -1,38 +1,19 @@
--- What the store holds. This project's own; the tables are those of Django's auth and sessions applications.
-use Rattle.std.specs.Prelude.{◌==◌, ℕ, List, [], ◌∷◌, Option, None, Some, bytes_eq, if◌then◌else◌}
-use Rattle.permissions.specs.declared.rows.GroupRow.{GroupRow}
-use Rattle.permissions.specs.declared.rows.PermRow.{PermRow}
+-- The state of a ledger: the tables, which its keeper holds, and the rows of its cache. This project's own.
+use Rattle.std.specs.Prelude.{List, []}
+use Rattle.ledger_rows.specs.Tables.{Tables, opening_tables}
+use Rattle.ledger_rows.specs.declared.rows.Engine.{Engine}
 use Rattle.ledger_rows.specs.declared.rows.Opening.{Opening}
 use Rattle.ledger_rows.specs.declared.rows.SessionRow.{SessionRow}
-use Rattle.ledger_rows.specs.declared.rows.UserRow.{UserRow}
 
 pub record State : Type 0 where
-  -- the signing keys, the first key first
-  pub keys : List (List ℕ)
-  pub users : List UserRow
-  pub groups : List GroupRow
-  pub perms : List PermRow
-  pub sessions : List SessionRow
-  -- how many starts there were
-  pub boot : ℕ
+  pub tables : Tables
+  -- empty where sessions are kept in the tables
+  pub cache : List SessionRow
 
--- what a new store holds
+-- the state in which a new store begins
 abbrev pub opening_state : Opening → State
-opening_state opening = record {
-  keys = opening.keys;
-  users = opening.users;
-  groups = opening.groups;
-  perms = opening.perms;
-  sessions = opening.sessions;
-  boot = 0;
-}
+opening_state opening = record { tables = opening_tables opening; cache = [] }
 
--- the user of an id
-abbrev pub user_of : List UserRow → ℕ → Option UserRow
-user_of [] id = None
-user_of (user ∷ users) id = if user.id == id then Some user else user_of users id
-
--- the session of a key
-abbrev pub session_of : List SessionRow → List ℕ → Option SessionRow
-session_of [] key = None
-session_of (session ∷ sessions) key = if bytes_eq session.key key then Some session else session_of sessions key
+-- the sessions that an engine sees: those of the tables, since `Db` is the only engine so far
+abbrev pub rows_of : Engine → State → List SessionRow
+rows_of engine state = state.tables.sessions

@@ -1,19 +1,30 @@
 //! Who a stored session speaks for.
 
-ghost use Rattle.std.specs.Prelude.{◌≡◌, ◌↔◌, IfOk, IsTrue, option_map};
+ghost use Rattle.std.specs.Prelude.{◌≡◌, ◌↔◌, IfOk, IsTrue};
 ghost use Rattle.std.specs.Option.{option_copied};
 ghost use Rattle.crypto_text.specs.Hexadecimal.{hex_text};
-ghost use Rattle.ledger_rows.specs.Admission.{IsRowOf, admits, auth_hash, backend_of, key_index, verdict_on_auth, verdict_on_user};
+ghost use Rattle.signing_core.specs.Keys.{key_at};
+ghost use Rattle.ledger_rows.specs.Admission.{IsRowOf, admits, auth_hash, backend_of, key_index, login_of, verdict_on_auth, verdict_on_user};
+ghost use Rattle.ledger_rows.specs.Step.{admitted_user, user_read};
 
+use crate::reply::UserRead;
 use crate::rows::{Backend, UserRow};
 use crate::verdict::Verdict;
-use crypto_text::{Text, hex_of, salted_hmac};
+use crypto_text::{Text, hex_of, salted_hmac, same};
 use session_codec::AuthPart;
 use signing_core::Keys;
 use std::alloc::{AllocError, Global};
 
 const SESSION_AUTH_SALT: &[u8] =
     b"django.contrib.auth.models.AbstractBaseUser.get_session_auth_hash";
+
+/// What is found of a session that was read.
+#[derive(Drop)]
+pub struct Judgement {
+    pub verdict: Verdict,
+    /// Whom the verdict admits.
+    pub user: Option<UserRead>,
+}
 
 /// The hash that a session of a user keeps, as Django's `get_session_auth_hash`: it tells the password
 /// text and the key, so that it admits nobody once one of them is gone. Takes no memory.
@@ -49,8 +60,8 @@ pub fn admit(
     user: Option<&UserRow>,
     keys: &Keys,
 ) -> Verdict
-    requires row { IsRowOf (option_map (λ part. record { user = part.now.user; backend = part.now.backend.now; hash = part.now.hash.now }) part) (option_copied user) }
-    ensures { result ≡ verdict_on_auth backends.now keys.now (option_map (λ part. record { user = part.now.user; backend = part.now.backend.now; hash = part.now.hash.now }) part.entry) (option_copied user.entry) }
+    requires row { IsRowOf (login_of (option_copied part)) (option_copied user) }
+    ensures { result ≡ verdict_on_auth backends.now keys.now (login_of (option_copied part.entry)) (option_copied user.entry) }
 {
     match part {
         Some(part) => match backend_of(backends, part.backend) {
@@ -59,6 +70,51 @@ pub fn admit(
         },
         None => Verdict::NoAuth,
     }
+}
+
+/// The verdict on a session that was read, with the user whom it admits. Where the first key admits, the
+/// user's hash is the one that was just compared, and isn't computed again.
+pub fn judge(
+    alloc: Global,
+    part: Option<&AuthPart<'_>>,
+    backends: &[Backend],
+    user: Option<UserRow>,
+    keys: &Keys,
+) -> Result<Judgement, AllocError>
+    requires row { IsRowOf (login_of (option_copied part)) user }
+    ensures verdict { IfOk result (λ found. found.verdict ≡ verdict_on_auth backends.now keys.now (login_of (option_copied part.entry)) user) }
+    ensures user { IfOk result (λ found. found.user ≡ admitted_user found.verdict keys.now user) }
+{
+    let verdict = admit(part, backends, user.as_ref(), keys);
+    match (verdict, part, user) {
+        (Verdict::Admitted { key_index }, Some(part), Some(row)) => Ok(Judgement {
+            verdict,
+            user: Some(read_under(alloc, keys, key_index, part.hash, row)?),
+        }),
+        _ => Ok(Judgement {
+            verdict,
+            user: None,
+        }),
+    }
+}
+
+// The hash is that of the key at this index.
+fn read_under(
+    alloc: Global,
+    keys: &Keys,
+    key_index: usize,
+    hash: &str,
+    row: UserRow,
+) -> Result<UserRead, AllocError>
+    requires { auth_hash row.password (key_at keys.now key_index) ≡ hash.now }
+    ensures { IfOk result (λ read. read ≡ user_read keys.now row) }
+{
+    let auth_hash = if key_index == 0 {
+        Text::of(alloc, hash)?
+    } else {
+        session_auth_text(alloc, row.password.as_str(), keys.first())?
+    };
+    Ok(UserRead { row, auth_hash })
 }
 
 fn backend_of(backends: &[Backend], path: &str) -> Option<Backend>
@@ -109,5 +165,5 @@ fn key_index(keys: &Keys, password: &str, hash: &str) -> Option<usize>
 fn is_hash_under(key: &[u8], password: &str, hash: &str) -> bool
     ensures { IsTrue result ↔ (auth_hash password.now key.now ≡ hash.now) }
 {
-    session_auth_hash(password, key).as_slice() == hash.as_bytes()
+    same(&session_auth_hash(password, key), hash.as_bytes())
 }

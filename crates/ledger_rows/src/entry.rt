@@ -6,7 +6,7 @@ use crate::operation::Op;
 use std::alloc::{AllocError, Global};
 
 /// Who did a step: the start of the program, the worker, its request and the step within it. Starts,
-/// workers and requests are counted from 1, steps from 0; a start itself has zeros behind its number.
+/// workers and requests are counted from 1, steps from 0; a start itself has zeros after its number.
 #[derive(Clone, Copy, Debug, PartialEq, Eq)]
 pub struct Tag {
     pub boot: u64,
@@ -16,7 +16,7 @@ pub struct Tag {
 }
 
 /// A step that was done.
-#[derive(Debug, Drop, PartialEq, Eq)]
+#[derive(Drop, PartialEq, Eq)]
 pub struct Entry {
     pub tag: Tag,
     pub op: Op,

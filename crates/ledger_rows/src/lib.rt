@@ -14,11 +14,11 @@ mod rows;
 mod tests;
 mod verdict;
 
-pub use crate::admission::{admit, session_auth_hash, session_auth_text};
+pub use crate::admission::{Judgement, admit, judge, session_auth_hash, session_auth_text};
 pub use crate::entry::{Entry, Tag};
 pub use crate::form::{is_email, is_permission_word, is_session_key, is_user_name};
 pub use crate::operation::Op;
 pub use crate::reply::{Reply, UserRead};
 pub use crate::row_list::{Row, RowList};
-pub use crate::rows::{Backend, Cfg, Engine, Opening, SessionRow, UserRow};
+pub use crate::rows::{Backend, Cfg, Engine, MailRow, Opening, SessionRow, UserRow};
 pub use crate::verdict::Verdict;

@@ -6,7 +6,7 @@ use crypto_text::Text;
 use std::alloc::{AllocError, Global};
 
 /// What is done to the store in one step.
-#[derive(Debug, Drop, PartialEq, Eq)]
+#[derive(Drop, PartialEq, Eq)]
 pub enum Op {
     /// A start of the program over this store.
     Boot,

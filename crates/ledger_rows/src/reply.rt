@@ -6,14 +6,14 @@ use crypto_text::Text;
 
 /// A user as a step found it, with the hash that a session of it is to keep, as Django's
 /// `get_session_auth_hash` gives it.
-#[derive(Debug, Drop, PartialEq, Eq)]
+#[derive(Drop, PartialEq, Eq)]
 pub struct UserRead {
     pub row: UserRow,
     pub auth_hash: Text,
 }
 
 /// What a step gives back, by its operation.
-#[derive(Debug, Drop, PartialEq, Eq)]
+#[derive(Drop, PartialEq, Eq)]
 pub enum Reply {
     /// To `Boot`: how many starts there were, with this one.
     Booted {

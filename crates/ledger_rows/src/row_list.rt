@@ -2,7 +2,7 @@
 
 ghost use Rattle.std.specs.Prelude.{◌≡◌, IfOk};
 
-use crate::rows::{Backend, SessionRow, UserRow};
+use crate::rows::{Backend, MailRow, SessionRow, UserRow};
 use pass_hashers::Algo;
 use permissions::{GroupRow, PermRow};
 use std::alloc::{AllocError, Global};
@@ -16,7 +16,7 @@ pub trait Row: Drop {
 }
 
 /// Rows in order, seen as a list.
-#[derive(Debug, Drop)]
+#[derive(Drop)]
 pub struct RowList<T> {
     rows: Vec<T>,
 }
@@ -73,6 +73,12 @@ impl Row for UserRow {
 
 impl Row for SessionRow {
     fn copy_row(&self, alloc: Global) -> Result<SessionRow, AllocError> {
+        self.copy(alloc)
+    }
+}
+
+impl Row for MailRow {
+    fn copy_row(&self, alloc: Global) -> Result<MailRow, AllocError> {
         self.copy(alloc)
     }
 }

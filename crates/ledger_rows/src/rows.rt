@@ -11,7 +11,7 @@ use signing_core::Keys;
 use std::alloc::{AllocError, Global};
 
 /// A user, as Django's `User`.
-#[derive(Debug, Drop, PartialEq, Eq)]
+#[derive(Drop, PartialEq, Eq)]
 pub struct UserRow {
     pub id: u64,
     pub name: Text,
@@ -29,13 +29,22 @@ pub struct UserRow {
 }
 
 /// A session, as Django's `Session`.
-#[derive(Debug, Drop, PartialEq, Eq)]
+#[derive(Drop, PartialEq, Eq)]
 pub struct SessionRow {
     pub key: Text,
     /// The session's map, signed.
     pub text: Text,
     /// The first second in which the session is over, since 1970.
     pub expire: u64,
+}
+
+/// A mail that waits to be sent.
+#[derive(Drop, PartialEq, Eq)]
+pub struct MailRow {
+    pub id: u64,
+    pub to: Text,
+    /// The path of a page that resets the password.
+    pub link: Text,
 }
 
 /// What decides, once the password or the session is right, whether a user may come in.
@@ -55,7 +64,7 @@ pub enum Engine {
 }
 
 /// What a site has set for its logins.
-#[derive(Debug, Drop)]
+#[derive(Drop)]
 pub struct Cfg {
     pub engine: Engine,
     /// In the order in which they are asked.
@@ -67,7 +76,7 @@ pub struct Cfg {
 }
 
 /// What a new store begins with.
-#[derive(Debug, Drop)]
+#[derive(Drop)]
 pub struct Opening {
     pub keys: Keys,
     pub users: RowList<UserRow>,
@@ -131,6 +140,34 @@ impl SessionRow {
             key: self.key.copy(alloc)?,
             text: self.text.copy(alloc)?,
             expire: self.expire,
+        })
+    }
+}
+
+impl MailRow {
+    /// The same row once more.
+    pub fn copy(&self, alloc: Global) -> Result<MailRow, AllocError>
+        ensures { IfOk result (λ copy. copy ≡ self.now) }
+    {
+        Ok(MailRow {
+            id: self.id,
+            to: self.to.copy(alloc)?,
+            link: self.link.copy(alloc)?,
+        })
+    }
+}
+
+impl Opening {
+    /// The same once more.
+    pub fn copy(&self, alloc: Global) -> Result<Opening, AllocError>
+        ensures { IfOk result (λ copy. copy ≡ self.now) }
+    {
+        Ok(Opening {
+            keys: self.keys.copy(alloc)?,
+            users: self.users.copy(alloc)?,
+            groups: self.groups.copy(alloc)?,
+            perms: self.perms.copy(alloc)?,
+            sessions: self.sessions.copy(alloc)?,
         })
     }
 }

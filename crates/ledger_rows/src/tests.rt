@@ -19,9 +19,9 @@ fn an_entry_is_copied_whole(rt: HostRuntime) -> Result<(), Fail> {
         now: 1_700_000_000,
     };
     let entry = Entry { tag, op };
-    assert_eq!(rt; entry.copy(alloc)?, entry);
+    assert!(rt; entry.copy(alloc)? == entry);
     let start = Entry { tag, op: Op::Boot };
-    assert_eq!(rt; start.copy(alloc)?, start);
+    assert!(rt; start.copy(alloc)? == start);
     Ok(())
 }
 
@@ -150,11 +150,11 @@ fn rows_are_copied_whole(rt: HostRuntime) -> Result<(), Fail> {
         text: Text::of(alloc, "e30:1r31Oi:x")?,
         expire: 1_700_000_001,
     };
-    assert_eq!(rt; user.copy(alloc)?, user);
-    assert_eq!(rt; session.copy(alloc)?, session);
+    assert!(rt; user.copy(alloc)? == user);
+    assert!(rt; session.copy(alloc)? == session);
     let mut rows = Vec::new(alloc);
     rows.push(session)?;
     let rows = RowList::from_vec(rows);
-    assert_eq!(rt; rows.copy(alloc)?.items(), rows.items());
+    assert!(rt; rows.copy(alloc)?.items() == rows.items());
     Ok(())
 }

@@ -1,3 +1,4 @@
-pub mod Places
+pub mod Calls
+pub mod Positions
 pub mod Readings
-pub mod Telling
+pub mod Retries

@@ -1,7 +1,7 @@
--- Readings of a clock, one call behind another.
+-- Readings of a clock, one call after another.
 use Rattle.std.proofs.Common.{◌≡◌, ◌<◌, ◌+◌, ℕ, zero, suc, List, [], ◌∷◌, ◌++◌, Option, Some, None, refl, ap, ◌∙◌, length, slice_index, zero-add, arith}
 use Rattle.std.proofs.Math.Path.{fun_ext}
-use Rattle.outside.specs.Clock.{reading_of, told_before}
+use Rattle.outside.specs.Clock.{reading_of, with_first}
 
 -- the readings that were given come first
 pub reading_of-given : (given : List ℕ) (later : ℕ → ℕ) (k : ℕ) → k < length given → reading_of given later k ≡ slice_index given k
@@ -9,7 +9,7 @@ reading_of-given [] later k below = absurd (omega arith)
 reading_of-given (now ∷ rest) later zero below = refl
 reading_of-given (now ∷ rest) later (suc k) below = reading_of-given rest later k (omega arith)
 
--- and those behind them
+-- and then those after them
 pub reading_of-later : (given : List ℕ) (later : ℕ → ℕ) (k : ℕ) → reading_of given later (length given + k) ≡ later k
 reading_of-later [] later k = ap later (zero-add k)
 reading_of-later (now ∷ rest) later k =
@@ -22,11 +22,11 @@ reading_of-append (now ∷ rest) b later zero = refl
 reading_of-append (now ∷ rest) b later (suc k) = reading_of-append rest b later k
 
 -- the clock wasn't read
-pub told_before-nothing : (told : Option (ℕ → ℕ)) → told_before [] told ≡ told
-told_before-nothing None = refl
-told_before-nothing (Some later) = ap (λ rule. Some rule) (fun_ext (λ k. refl))
+pub with_first-nothing : (later : Option (ℕ → ℕ)) → with_first [] later ≡ later
+with_first-nothing None = refl
+with_first-nothing (Some later) = ap (λ rule. Some rule) (fun_ext (λ k. refl))
 
 -- the clock was read again
-pub told_before-append : (told : Option (ℕ → ℕ)) (a b : List ℕ) → told_before (a ++ b) told ≡ told_before a (told_before b told)
-told_before-append None a b = refl
-told_before-append (Some later) a b = ap (λ rule. Some rule) (fun_ext (reading_of-append a b later))
+pub with_first-append : (later : Option (ℕ → ℕ)) (a b : List ℕ) → with_first (a ++ b) later ≡ with_first a (with_first b later)
+with_first-append None a b = refl
+with_first-append (Some later) a b = ap (λ rule. Some rule) (fun_ext (reading_of-append a b later))

@@ -1,5 +1,5 @@
-pub mod Bytes
 pub mod Clock
+pub mod Devices
 pub mod Faults
 pub mod Memory
 pub mod RandomWords

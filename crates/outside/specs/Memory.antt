@@ -1,5 +1,6 @@
--- Devices in memory, which number their calls from 0 and fail at those that they are told to fail at.
-use Rattle.std.specs.Prelude.{ℕ, ◌-◌, min, List, ◌++◌, length, drop}
+-- Devices in memory, which number their calls from 0 and fail at those that are listed.
+use Rattle.std.specs.Prelude.{◌≡◌, ℕ, zero, suc, ◌-◌, min, Bool, true, false, List, [], ◌∷◌, ◌++◌, length, drop, Some, refl}
+use Rattle.outside.specs.Devices.{Input, Output}
 use Rattle.outside.specs.Faults.{one_more}
 
 -- the number of the next call; a number stays at its type's greatest value once it is there
@@ -17,6 +18,21 @@ pub record MemoryInput : Type 0 where
   -- the number of the next call
   pub number : ℕ
   pub faults : ℕ
+
+-- no call is listed to fail, and none has failed: it is so of a new source with an empty list
+abbrev pub is_faultless : List ℕ → ℕ → Bool
+is_faultless [] zero = true
+is_faultless [] (suc faults) = false
+is_faultless (number ∷ numbers) faults = false
+
+-- what it reports
+abbrev pub input_of : MemoryInput → Input
+input_of i = record { left = Some i.left; faults = i.faults; never_fails = is_faultless i.fail_at i.faults }
+
+pub is_faultless-no_faults : (fail_at : List ℕ) (faults : ℕ) → is_faultless fail_at faults ≡ true → faults ≡ 0
+is_faultless-no_faults [] zero faultless = refl
+is_faultless-no_faults [] (suc faults) faultless = cc
+is_faultless-no_faults (number ∷ numbers) faults faultless = cc
 
 -- the call failed, and took nothing
 abbrev pub input_after_fault : MemoryInput → MemoryInput
@@ -43,6 +59,10 @@ pub record MemoryOutput : Type 0 where
   -- the number of the next call
   pub number : ℕ
   pub faults : ℕ
+
+-- what it reports
+abbrev pub output_of : MemoryOutput → Output
+output_of o = record { written = Some o.written; faults = o.faults }
 
 -- the call failed, and took nothing
 abbrev pub output_after_fault : MemoryOutput → MemoryOutput

@@ -8,8 +8,8 @@ use rand_chacha::ChaCha20Rng;
 use rand_core::SeedableRng;
 use rand_core::utils::NextWord;
 
-/// The words of one stream of ChaCha with twenty rounds (RFC 8439, with a number of 64 bits for the stream in
-/// place of the nonce).
+/// The words of one stream of ChaCha with twenty rounds (RFC 8439, with a number of 64 bits for the stream
+/// instead of the nonce).
 #[derive(Drop)]
 pub struct ChaChaWords {
     rng: ChaCha20Rng,
@@ -19,8 +19,7 @@ pub struct ChaChaWords {
 impl ChaChaWords {
     /// A stream of a seed, from its first word on. Takes no memory.
     pub fn new(seed: [u8; 32], stream: u64) -> ChaChaWords
-        ensures place { ⟦<ChaChaWords as Words>⟧.place result ≡ 0 }
-        ensures rule { ⟦<ChaChaWords as Words>⟧.word_at result ≡ chacha_word_at 10 (key_of seed) stream }
+        ensures { ⟦<ChaChaWords as Words>⟧.seen result ≡ record { position = 0; word_at = chacha_word_at 10 (key_of seed) stream } }
     {
         let mut rng = ChaCha20Rng::from_seed(seed);
         rng.set_stream(stream);
@@ -29,11 +28,9 @@ impl ChaChaWords {
 }
 
 impl Words for ChaChaWords {
-    ghost place = { λ w. w.rng.word_pos };
+    ghost seen = { λ w. record { position = w.rng.word_pos; word_at = chacha_word_at 10 w.rng.key w.rng.stream } };
 
-    ghost word_at = { λ w. chacha_word_at 10 w.rng.key w.rng.stream };
-
-    ghost place_is_below = { λ w. w.below };
+    ghost position_is_below = { λ w. w.below };
 
     fn next_word(&mut self) -> u32 {
         self.rng.next_word()

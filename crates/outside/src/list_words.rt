@@ -6,17 +6,17 @@ ghost use Rattle.outside.specs.RandomWords.{FitWords, listed_word};
 use crate::random_words::Words;
 use crypto_text::Ids;
 
-const PLACES: u128 = 1 << 68;
+const POSITIONS: u128 = 1 << 68;
 
-/// Words of a list, and behind them one word at each place.
+/// Words of a list, and after them one word at each position.
 #[derive(Drop)]
 pub struct ListWords {
     words: Ids,
     rest: u32,
-    place: u128,
+    position: u128,
     ghost fit: { FitWords words },
     ghost rest_fits: { rest < 2 ^ 32 },
-    ghost below: { place < 2 ^ 68 },
+    ghost below: { position < 2 ^ 68 },
 }
 
 impl ListWords {
@@ -27,39 +27,36 @@ impl ListWords {
         words.items().iter().all(|word| *word < 1 << 32)
     }
 
-    /// The words of a list from place 0 on, and `rest` behind them.
+    /// The words of a list from position 0 on, and `rest` after them.
     pub fn new(words: Ids, rest: u32) -> ListWords
         requires { FitWords words }
-        ensures place { ⟦<ListWords as Words>⟧.place result ≡ 0 }
-        ensures rule { ⟦<ListWords as Words>⟧.word_at result ≡ listed_word words rest }
+        ensures { ⟦<ListWords as Words>⟧.seen result ≡ record { position = 0; word_at = listed_word words rest } }
     {
         ListWords {
             words,
             rest,
-            place: 0,
+            position: 0,
         }
     }
 }
 
 impl Words for ListWords {
-    ghost place = { λ w. w.place };
+    ghost seen = { λ w. record { position = w.position; word_at = listed_word w.words w.rest } };
 
-    ghost word_at = { λ w. listed_word w.words w.rest };
-
-    ghost place_is_below = { λ w. w.below };
+    ghost position_is_below = { λ w. w.below };
 
     fn next_word(&mut self) -> u32 {
-        let word = word_of(self.words.items(), self.rest, self.place);
-        self.place = (self.place + 1) % PLACES;
+        let word = word_of(self.words.items(), self.rest, self.position);
+        self.position = (self.position + 1) % POSITIONS;
         word
     }
 }
 
-fn word_of(words: &[u64], rest: u32, place: u128) -> u32
+fn word_of(words: &[u64], rest: u32, position: u128) -> u32
     requires { FitWords words.now }
-    ensures { result ≡ listed_word words.now rest place }
+    ensures { result ≡ listed_word words.now rest position }
 {
-    match usize::try_from(place) {
+    match usize::try_from(position) {
         Ok(at) if at < words.len() => words[at] as u32,
         _ => rest,
     }

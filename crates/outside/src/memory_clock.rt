@@ -34,7 +34,7 @@ impl MemClock {
 }
 
 impl Clock for MemClock {
-    ghost readings = { λ m. Some (repeating m) };
+    ghost seen = { λ m. Some (repeating m) };
 
     fn now(&mut self) -> u64 {
         match &self.readings.items()[self.at..] {

@@ -1,11 +1,10 @@
 //! A sink in memory, for tests and for worked examples.
 
-ghost use Rattle.std.specs.Prelude.{◌≡◌, ◌≤◌, ◌<◌, ◌↔◌, ◌⊎◌, [], Some, length, take, IsErr, IfOk, OnErr, Contains};
-ghost use Rattle.outside.specs.Bytes.{Appends};
-ghost use Rattle.outside.specs.Faults.{HasCause};
-ghost use Rattle.outside.specs.Memory.{taken_of, output_after, output_after_fault};
+ghost use Rattle.std.specs.Prelude.{◌≡◌, ◌≤◌, ◌<◌, ◌↔◌, ◌⊎◌, [], length, take, IsErr, IfOk, OnErr, Contains};
+ghost use Rattle.outside.specs.Devices.{HasWritten, IsFailedWrite};
+ghost use Rattle.outside.specs.Memory.{taken_of, output_of, output_after, output_after_fault};
 
-use crate::memory_source::stands_in;
+use crate::memory_source::is_listed;
 use crate::sink::Sink;
 use crate::source::Failed;
 use crypto_text::Ids;
@@ -67,24 +66,21 @@ impl MemSink {
 }
 
 impl Sink for MemSink {
-    ghost written = { λ m. Some m.written };
-
-    ghost write_faults = { λ m. m.faults };
+    ghost seen = { output_of };
 
     /// Fails where the call's number is listed or a nonempty piece finds no room, and else takes as many bytes
     /// as it can. Takes no memory.
     fn write(&mut self, piece: &[u8]) -> Result<usize, Failed>
         ensures bound { IfOk result (λ n. n ≤ length piece.now) }
         ensures some { IfOk result (λ n. 0 < length piece.now → 0 < n) }
-        ensures writes { IfOk result (λ n. Appends (Some self.old.written) (Some self.new.written) (take n piece.now)) }
-        ensures same { OnErr result (Some self.new.written ≡ Some self.old.written) }
-        ensures faults { HasCause self.old.faults self.new.faults result }
+        ensures ok { IfOk result (λ n. HasWritten (output_of self.old) (output_of self.new) (take n piece.now)) }
+        ensures err { OnErr result (IsFailedWrite (output_of self.old) (output_of self.new)) }
         ensures failed { IsErr result ↔ (Contains self.old.fail_at self.old.number ⊎ (0 < length piece.now × self.old.room ≡ 0)) }
         ensures after_fault { OnErr result (self.new ≡ output_after_fault self.old) }
         ensures count { IfOk result (λ n. n ≡ taken_of self.old (length piece.now)) }
         ensures after { IfOk result (λ n. self.new ≡ output_after self.old (take n piece.now)) }
     {
-        let fails = stands_in(self.fail_at.items(), self.number)
+        let fails = is_listed(self.fail_at.items(), self.number)
             || (!piece.is_empty() && self.room == 0);
         self.number = self.number.saturating_add(1);
         if fails {

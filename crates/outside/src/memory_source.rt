@@ -1,9 +1,8 @@
 //! A source in memory, for tests and for worked examples.
 
-ghost use Rattle.std.specs.Prelude.{◌≡◌, ◌≤◌, ◌↔◌, ◌<◌, ◌++◌, [], Some, length, take, drop, min, IsErr, IsTrue, IfOk, OnErr, Contains};
-ghost use Rattle.outside.specs.Bytes.{ReadsNext, NothingLeft};
-ghost use Rattle.outside.specs.Faults.{HasCause};
-ghost use Rattle.outside.specs.Memory.{given_to, input_after, input_after_fault};
+ghost use Rattle.std.specs.Prelude.{◌≡◌, ◌≤◌, ◌↔◌, ◌<◌, ◌++◌, length, take, drop, min, IsErr, IsTrue, IfOk, OnErr, Contains};
+ghost use Rattle.outside.specs.Devices.{HasRead, IsFailedRead, HasEnded};
+ghost use Rattle.outside.specs.Memory.{given_to, input_of, input_after, input_after_fault, is_faultless-no_faults};
 
 use crate::source::{Failed, Source};
 use crypto_text::{Bytes, Ids};
@@ -56,28 +55,22 @@ impl MemSource {
 }
 
 impl Source for MemSource {
-    ghost left = { λ m. Some m.left };
+    ghost seen = { input_of };
 
-    ghost read_faults = { λ m. m.faults };
-
-    ghost is_sure = { λ m. (m.fail_at ≡ []) × (m.faults ≡ 0) };
-
-    ghost sure_has_no_fault = { λ m sure. sure.1 };
+    ghost never_failed = { λ m faultless. is_faultless-no_faults m.fail_at m.faults faultless };
 
     /// Fails where the call's number is listed, and else gives as many bytes as it can.
     fn read(&mut self, buf: &mut [u8]) -> Result<usize, Failed>
         ensures bound { IfOk result (λ n. n ≤ length buf.new) }
-        ensures reads { IfOk result (λ n. ReadsNext (Some self.old.left) (Some self.new.left) (take n buf.new)) }
-        ensures end { IfOk result (λ n. n ≡ 0 → 0 < length buf.new → NothingLeft (Some self.new.left)) }
-        ensures same { OnErr result (Some self.new.left ≡ Some self.old.left) }
-        ensures faults { HasCause self.old.faults self.new.faults result }
-        ensures sure { (self.old.fail_at ≡ []) × (self.old.faults ≡ 0) → (self.new.fail_at ≡ []) × (self.new.faults ≡ 0) }
+        ensures ok { IfOk result (λ n. HasRead (input_of self.old) (input_of self.new) (take n buf.new)) }
+        ensures end { IfOk result (λ n. n ≡ 0 → 0 < length buf.new → HasEnded (input_of self.new)) }
+        ensures err { OnErr result (IsFailedRead (input_of self.old) (input_of self.new)) }
         ensures failed { IsErr result ↔ Contains self.old.fail_at self.old.number }
         ensures after_fault { OnErr result (self.new ≡ input_after_fault self.old) }
         ensures count { IfOk result (λ n. n ≡ given_to self.old (length buf.new)) }
         ensures after { IfOk result (λ n. self.new ≡ input_after self.old n) }
     {
-        let fails = stands_in(self.fail_at.items(), self.number);
+        let fails = is_listed(self.fail_at.items(), self.number);
         self.number = self.number.saturating_add(1);
         if fails {
             self.faults = self.faults.saturating_add(1);
@@ -94,7 +87,7 @@ impl Source for MemSource {
 }
 
 /// Whether a call of this number is one of those that fail.
-pub(crate) fn stands_in(numbers: &[u64], number: u64) -> bool
+pub(crate) fn is_listed(numbers: &[u64], number: u64) -> bool
     ensures { IsTrue result ↔ Contains numbers.now number }
 {
     numbers.contains(&number)

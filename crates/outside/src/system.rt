@@ -1,46 +1,70 @@
-//! Files, the standard streams and the clock of the operating system. They count their faults and tell nothing
-//! of their content.
+//! Files, the standard streams and the clock of the operating system. They count their faults, and don't report what they
+//! hold: what they do to a reader or a writer whose bytes are known, their clauses say by that.
 
-ghost use Rattle.std.specs.Prelude.{◌≡◌, None};
+ghost use Rattle.std.specs.Prelude.{◌≡◌, ◌≤◌, ◌<◌, ◌↔◌, None, Some, true, false, length, take, IfOk, OnOk, OnErr, IsErr, IsNone, IsErrAnd, IfErr, option_and_then};
+ghost use Rattle.std.specs.Io.KnownBytes.{ReadConsumes, WriteAppends};
+ghost use Rattle.std.specs.IoError.{error_kind};
+ghost use Rattle.outside.specs.Devices.{HasRead, IsFailedRead, HasEnded, HasWritten, IsFailedWrite, counted_input, counted_output, counted_input-never_failed};
 
 use crate::clock::Clock;
+use crate::retry::{read_retrying, write_retrying};
 use crate::sink::Sink;
 use crate::source::{Failed, Source};
-use std::fs::{self, File};
-use std::io::Read;
+use std::alloc::AllocError;
+use std::fs;
+use std::io::{self, ErrorKind, Read, Write};
 use std::rt::{Clock as SystemTime, Files};
 
 /// A file that is read from its start.
 #[derive(Drop)]
-pub struct FileSource {
-    file: Option<File>,
+pub struct FileSource<F> {
+    file: Option<F>,
     faults: u64,
 }
 
-impl FileSource {
-    /// Opens a file. Where that fails, each read of the source fails.
-    pub fn open<R: Files<File = File>>(rt: &R, path: &str) -> FileSource
-        ensures faults { ⟦<FileSource as Source>⟧.read_faults result ≡ 0 }
+impl<F: Read + Drop> FileSource<F> {
+    /// Opens a file. Where that fails, each read of the source fails, and a folder fails at its first read. Only out of
+    /// memory is refused here, since a program ends otherwise with it than with a file that isn't there.
+    pub fn open<R: Files<File = F>>(rt: &R, path: &str) -> Result<FileSource<F>, AllocError>
+        ensures { IfOk result (λ source. (⟦<FileSource<F> as Source>⟧.seen source).faults ≡ 0) }
     {
-        FileSource {
-            file: fs::open(rt, path).ok(),
-            faults: 0,
+        FileSource::of_opened(fs::open(rt, path))
+    }
+
+    fn of_opened(opened: io::Result<F>) -> Result<FileSource<F>, AllocError>
+        ensures file { IfOk opened (λ file. result ≡ Ok (record { file = Some file; faults = 0 })) }
+        ensures no_file { OnErr opened (IfOk result (λ source. source ≡ record { file = None; faults = 0 })) }
+        ensures memory { IsErr result ↔ IsErrAnd opened (λ e. error_kind e ≡ ErrorKind.OutOfMemory) }
+    {
+        match opened {
+            Ok(file) => Ok(FileSource {
+                file: Some(file),
+                faults: 0,
+            }),
+            Err(e) if e.kind() == ErrorKind::OutOfMemory => Err(AllocError),
+            Err(_) => Ok(FileSource {
+                file: None,
+                faults: 0,
+            }),
         }
     }
 }
 
-impl Source for FileSource {
-    ghost left = { λ _. None };
+impl<F: Read + Drop> Source for FileSource<F> {
+    ghost seen = { λ s. counted_input s.faults };
 
-    ghost read_faults = { λ s. s.faults };
+    ghost never_failed = { λ s never_fails. counted_input-never_failed s.faults never_fails };
 
-    ghost is_sure = { λ _. ⊥ };
-
-    ghost sure_has_no_fault = { λ _ sure. absurd sure };
-
-    fn read(&mut self, buf: &mut [u8]) -> Result<usize, Failed> {
+    fn read(&mut self, buf: &mut [u8]) -> Result<usize, Failed>
+        ensures bound { IfOk result (λ n. n ≤ length buf.new) }
+        ensures ok { IfOk result (λ n. HasRead (counted_input self.old.faults) (counted_input self.new.faults) (take n buf.new)) }
+        ensures end { IfOk result (λ n. n ≡ 0 → 0 < length buf.new → HasEnded (counted_input self.new.faults)) }
+        ensures err { OnErr result (IsFailedRead (counted_input self.old.faults) (counted_input self.new.faults)) }
+        ensures bytes { ReadConsumes (option_and_then F.remaining self.old.file) (option_and_then F.remaining self.new.file) result buf.new }
+        ensures no_file { IsNone self.old.file → IsErr result }
+    {
         if let Some(file) = &mut self.file {
-            if let Ok(count) = file.read(buf) {
+            if let Ok(count) = read_retrying(file, buf) {
                 return Ok(count);
             }
         }
@@ -53,7 +77,7 @@ impl Source for FileSource {
     }
 }
 
-/// The standard input, as a reader of the runtime.
+/// A reader of std, as the standard input.
 #[derive(Drop)]
 pub struct StdSource<I> {
     input: I,
@@ -61,25 +85,27 @@ pub struct StdSource<I> {
 }
 
 impl<I: Read + Drop> StdSource<I> {
-    /// A source over the runtime's reader, as `rt.reader()`.
+    /// A source over a reader, as `rt.reader()`.
     pub fn new(input: I) -> StdSource<I>
-        ensures faults { ⟦<StdSource<I> as Source>⟧.read_faults result ≡ 0 }
+        ensures { result ≡ record { input = input; faults = 0 } }
     {
         StdSource { input, faults: 0 }
     }
 }
 
 impl<I: Read + Drop> Source for StdSource<I> {
-    ghost left = { λ _. None };
+    ghost seen = { λ s. counted_input s.faults };
 
-    ghost read_faults = { λ s. s.faults };
+    ghost never_failed = { λ s never_fails. counted_input-never_failed s.faults never_fails };
 
-    ghost is_sure = { λ _. ⊥ };
-
-    ghost sure_has_no_fault = { λ _ sure. absurd sure };
-
-    fn read(&mut self, buf: &mut [u8]) -> Result<usize, Failed> {
-        match self.input.read(buf) {
+    fn read(&mut self, buf: &mut [u8]) -> Result<usize, Failed>
+        ensures bound { IfOk result (λ n. n ≤ length buf.new) }
+        ensures ok { IfOk result (λ n. HasRead (counted_input self.old.faults) (counted_input self.new.faults) (take n buf.new)) }
+        ensures end { IfOk result (λ n. n ≡ 0 → 0 < length buf.new → HasEnded (counted_input self.new.faults)) }
+        ensures err { OnErr result (IsFailedRead (counted_input self.old.faults) (counted_input self.new.faults)) }
+        ensures bytes { ReadConsumes (I.remaining self.old.input) (I.remaining self.new.input) result buf.new }
+    {
+        match read_retrying(&mut self.input, buf) {
             Ok(count) => Ok(count),
             Err(_) => {
                 self.faults = self.faults.saturating_add(1);
@@ -93,29 +119,33 @@ impl<I: Read + Drop> Source for StdSource<I> {
     }
 }
 
-/// The standard output of a runtime.
+/// A writer of std, as the standard output.
 #[derive(Drop)]
-pub struct StdSink<P> {
-    output: P,
+pub struct StdSink<O> {
+    output: O,
     faults: u64,
 }
 
-impl<P: Print + Drop> StdSink<P> {
-    /// A sink over what prints, as `&rt`.
-    pub fn new(output: P) -> StdSink<P>
-        ensures faults { ⟦<StdSink<P> as Sink>⟧.write_faults result ≡ 0 }
+impl<O: Write + Drop> StdSink<O> {
+    /// A sink over a writer that keeps nothing back, as `io::writer(rt)`: it is never flushed.
+    pub fn new(output: O) -> StdSink<O>
+        ensures { result ≡ record { output = output; faults = 0 } }
     {
         StdSink { output, faults: 0 }
     }
 }
 
-impl<P: Print + Drop> Sink for StdSink<P> {
-    ghost written = { λ _. None };
+impl<O: Write + Drop> Sink for StdSink<O> {
+    ghost seen = { λ s. counted_output s.faults };
 
-    ghost write_faults = { λ s. s.faults };
-
-    fn write(&mut self, piece: &[u8]) -> Result<usize, Failed> {
-        match self.output.write_some(piece) {
+    fn write(&mut self, piece: &[u8]) -> Result<usize, Failed>
+        ensures bound { IfOk result (λ n. n ≤ length piece.now) }
+        ensures some { IfOk result (λ n. 0 < length piece.now → 0 < n) }
+        ensures ok { IfOk result (λ n. HasWritten (counted_output self.old.faults) (counted_output self.new.faults) (take n piece.now)) }
+        ensures err { OnErr result (IsFailedWrite (counted_output self.old.faults) (counted_output self.new.faults)) }
+        ensures bytes { WriteAppends (O.contents self.old.output) (O.contents self.new.output) result piece.now }
+    {
+        match write_retrying(&mut self.output, piece) {
             Ok(count) if count > 0 || piece.is_empty() => Ok(count),
             _ => {
                 self.faults = self.faults.saturating_add(1);
@@ -129,7 +159,7 @@ impl<P: Print + Drop> Sink for StdSink<P> {
     }
 }
 
-/// The clock of a runtime, in whole seconds since 1970. It reads 0 where it can't be read or stands before 1970.
+/// The clock of a runtime, in whole seconds since 1970. It reads 0 where it can't be read or shows a time before 1970.
 #[derive(Drop)]
 pub struct SystemClock<C> {
     clock: C,
@@ -137,13 +167,15 @@ pub struct SystemClock<C> {
 
 impl<C: SystemTime + Drop> SystemClock<C> {
     /// A clock over the runtime's, as `&rt`.
-    pub fn new(clock: C) -> SystemClock<C> {
+    pub fn new(clock: C) -> SystemClock<C>
+        ensures { result ≡ record { clock = clock } }
+    {
         SystemClock { clock }
     }
 }
 
 impl<C: SystemTime + Drop> Clock for SystemClock<C> {
-    ghost readings = { λ _. None };
+    ghost seen = { λ _. None };
 
     fn now(&mut self) -> u64 {
         self.clock.since_1970().map_or(0, |time| time.as_secs())

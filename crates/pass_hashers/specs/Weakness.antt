@@ -1,9 +1,9 @@
 -- Passwords that are too weak, after Django 4.2's validators of passwords.
-use Rattle.std.specs.Prelude.{◌<◌, ℕ, ◌-◌, List, All, Contains, drop, length, map, take}
-use Rattle.std.specs.Char.{is_ascii_whitespace, to_ascii_lowercase}
+use Rattle.std.specs.Prelude.{◌<◌, ℕ, List, All, Contains, length, map}
+use Rattle.std.specs.Char.{to_ascii_lowercase}
 use Rattle.std.specs.Int.{IsInRange}
-use Rattle.std.specs.List.{prefix_len, suffix_len}
 use Rattle.std.specs.Str.{chars}
+use Rattle.crypto_text.specs.WhiteSpace.{trimmed}
 
 -- fewer than 8 characters
 abbrev pub IsTooShort : List ℕ → Type 0
@@ -12,14 +12,6 @@ IsTooShort password = length (chars password) < 8
 -- every character is one of 0 to 9
 abbrev pub IsAllDigits : List ℕ → Type 0
 IsAllDigits password = All (IsInRange 48 57) password
-
--- the text without the ASCII white space at its front
-abbrev pub without_front_space : List ℕ → List ℕ
-without_front_space text = drop (prefix_len is_ascii_whitespace text) text
-
--- the text without the ASCII white space at its ends
-abbrev pub trimmed : List ℕ → List ℕ
-trimmed text = take (length (without_front_space text) - suffix_len is_ascii_whitespace (without_front_space text)) (without_front_space text)
 
 -- what is looked up in the list of common passwords: ASCII lower case, trimmed of ASCII white space
 unfoldable pub plain_form : List ℕ → List ℕ

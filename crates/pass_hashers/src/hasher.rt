@@ -3,6 +3,8 @@
 ghost use Rattle.std.specs.Prelude.{◌≡◌, ◌↔◌, IsTrue};
 ghost use Rattle.pass_hashers.specs.PasswordText.{AreIterations, IsUsable, algo_of};
 
+use thiserror::Error;
+
 /// The most iterations that a password text may ask for, so that no text holds a login up for long.
 /// This project's own.
 pub const MAX_ITERATIONS: u32 = 10_000_000;
@@ -33,13 +35,13 @@ pub enum Algo {
 }
 
 /// Why a text is read as no hasher's.
-#[derive(Clone, Copy, Debug, PartialEq, Eq)]
+#[derive(Clone, Copy, Debug, PartialEq, Eq, Error)]
 pub enum HashFault {
-    /// It is marked as one that no password fits.
+    #[error("the text is marked as one that no password fits")]
     Unusable,
-    /// It begins with no algorithm's name.
+    #[error("the text begins with no known algorithm's name")]
     Unknown,
-    /// It begins with a name, and the rest is out of form.
+    #[error("the text begins with an algorithm's name, and the rest is malformed")]
     Malformed,
 }
 

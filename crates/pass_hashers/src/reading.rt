@@ -7,7 +7,7 @@ ghost use Rattle.pass_hashers.specs.Reading.{HasFront, HasNoDollar, HasRest, Has
 
 use crate::hasher::{Algo, HashFault, Hasher, algo_of, are_iterations};
 use crate::last_part::is_digest_text;
-use crypto_text::decimal_decode;
+use crypto_text::positive_decode;
 
 /// A text that a hasher made, in parts.
 #[derive(Clone, Copy)]
@@ -127,7 +127,7 @@ fn iterations_of(digits: &str) -> Option<u32>
     ensures found { IfSome result (λ iterations. AreIterations iterations × (digits.now ≡ decimal iterations)) }
     ensures none { IsNone result → (iterations : ℕ) → AreIterations iterations → digits.now ≢ decimal iterations }
 {
-    let number = decimal_decode(digits)?;
+    let number = positive_decode(digits)?;
     let iterations = u32::try_from(number).ok()?;
     if are_iterations(iterations) {
         Some(iterations)

@@ -51,7 +51,7 @@ fn a_password_fits_where_its_algorithm_is_installed(rt: HostRuntime) {
 }
 
 #[test]
-fn texts_are_told_apart(rt: HostRuntime) {
+fn texts_are_identified(rt: HostRuntime) {
     for (text, hasher) in [
         (SHA256, Ok(Hasher::Pbkdf2Sha256 { iterations: 1 })),
         (
@@ -105,34 +105,23 @@ fn texts_are_told_apart(rt: HostRuntime) {
 }
 
 #[test]
-fn short_salts_and_other_hashers_are_outdated(rt: HostRuntime) {
-    let sha256 =
+fn texts_of_other_hashers_or_short_salts_are_outdated(rt: HostRuntime) {
+    let sha256 = Hasher::Pbkdf2Sha256 {
+        iterations: 600_000,
+    };
+    let kept =
         "pbkdf2_sha256$600000$abcdefghijklmnopqrstuv$VawEblbjCJ/sFpHCJUS2BflBhSFt3gRl5oudV8INrLw=";
+    let fewer =
+        "pbkdf2_sha256$599999$abcdefghijklmnopqrstuv$VawEblbjCJ/sFpHCJUS2BflBhSFt3gRl5oudV8INrLw=";
+    let sha1 = Hasher::Pbkdf2Sha1 {
+        iterations: 600_000,
+    };
     for (text, preferred, outdated) in [
+        (kept, sha256, false),
+        (fewer, sha256, true),
+        (kept, sha1, true),
         (LONG_SALT, Hasher::Md5, false),
         (SHORT_SALT, Hasher::Md5, true),
-        (LONG_SALT, Hasher::Pbkdf2Sha256 { iterations: 1 }, true),
-        (
-            sha256,
-            Hasher::Pbkdf2Sha256 {
-                iterations: 600_000,
-            },
-            false,
-        ),
-        (
-            sha256,
-            Hasher::Pbkdf2Sha256 {
-                iterations: 599_999,
-            },
-            true,
-        ),
-        (
-            sha256,
-            Hasher::Pbkdf2Sha1 {
-                iterations: 600_000,
-            },
-            true,
-        ),
         ("!", Hasher::Md5, false),
     ] {
         assert_eq!(rt; must_update(text, preferred), outdated, "{text}");

@@ -1,32 +1,42 @@
 //! Rules for new passwords.
 
-ghost use Rattle.std.specs.Prelude.{◌≡◌, ◌↔◌, All, Contains, IfErr, IfOk, IsErrOf, IsOk, IsTrue, length, map};
+ghost use Rattle.std.specs.Prelude.{◌≡◌, ◌↔◌, All, IfErr, IfOk, IsErrOf, IsOk, IsTrue, length, map};
 ghost use Rattle.std.specs.Char.{to_ascii_lowercase};
 ghost use Rattle.std.specs.Int.{IsInRange};
 ghost use Rattle.std.specs.Str.{chars};
-ghost use Rattle.pass_hashers.specs.Weakness.{IsAllDigits, IsCommon, IsTooShort, plain_form, trimmed};
+ghost use Rattle.pass_hashers.specs.Weakness.{IsAllDigits, IsCommon, IsTooShort, plain_form};
+ghost use Rattle.pass_hashers.specs.declared.weakness.Weak.TheVariants.{Memory};
 
-use crypto_text::{Text, TextList};
+use crypto_text::{Text, TextList, is_among, trimmed};
 use std::alloc::{AllocError, Global};
+use thiserror::Error;
 
 /// The fewest characters of a password.
 const MIN_CHARACTERS: usize = 8;
 
 /// Why a password isn't taken.
-#[derive(Clone, Copy, Debug, PartialEq, Eq)]
+#[derive(Clone, Copy, Debug, PartialEq, Eq, Error)]
 pub enum Weak {
-    /// Fewer than 8 characters.
+    #[error("the password has fewer than 8 characters")]
     TooShort,
-    /// Digits alone.
+    #[error("the password has digits alone")]
     AllDigits,
-    /// It is on the list of common passwords.
+    #[error("the password is on the list of common passwords")]
     Common,
-    /// No memory to look it up.
+    #[error("out of memory")]
     Memory,
 }
 
-/// Whether a password may be taken. The list of common passwords is in lower case. Shortness is told
-/// before digits, and digits before the list.
+impl From<AllocError> for Weak {
+    ghost from_gives = { λ _ weak. weak ≡ Memory };
+
+    fn from(_: AllocError) -> Weak {
+        Weak::Memory
+    }
+}
+
+/// Whether a password may be taken. The list of common passwords is in lower case. Shortness is
+/// reported before digits, and digits before the list.
 pub fn validate(alloc: Global, password: &str, common: &TextList) -> Result<(), Weak>
     ensures ok { IsOk result → (¬ IsTooShort password.now) × (¬ IsAllDigits password.now) × ¬ IsCommon password.now common.now }
     ensures short { IsErrOf result Weak.TooShort ↔ IsTooShort password.now }
@@ -39,11 +49,10 @@ pub fn validate(alloc: Global, password: &str, common: &TextList) -> Result<(), 
     if are_digits(password.as_bytes()) {
         return Err(Weak::AllDigits);
     }
-    match is_common(alloc, password, common) {
-        Ok(true) => Err(Weak::Common),
-        Ok(false) => Ok(()),
-        Err(_) => Err(Weak::Memory),
+    if is_common(alloc, password, common)? {
+        return Err(Weak::Common);
     }
+    Ok(())
 }
 
 fn is_too_short(password: &str) -> bool
@@ -68,25 +77,12 @@ fn is_common(alloc: Global, password: &str, common: &TextList) -> Result<bool, A
     ensures { IfOk result (λ found. IsTrue found ↔ IsCommon password.now common.now) }
 {
     let plain = plain_form(alloc, password)?;
-    Ok(has_text(common.items(), plain.as_str()))
+    Ok(is_among(common.items(), plain.as_str()))
 }
 
 #[tactic(auto, unfolding(crate::specs::Weakness::plain_form))]
 fn plain_form(alloc: Global, password: &str) -> Result<Text, AllocError>
     ensures { IfOk result (λ plain. plain ≡ plain_form password.now) }
 {
-    let trimmed = trimmed(password);
-    Ok(Text::from_string(trimmed.to_ascii_lowercase(alloc)?))
-}
-
-fn trimmed(text: &str) -> &str
-    ensures { result.now ≡ trimmed text.now }
-{
-    text.trim_ascii()
-}
-
-fn has_text(texts: &[Text], wanted: &str) -> bool
-    ensures { IsTrue result ↔ Contains texts.now wanted.now }
-{
-    texts.iter().any(|text| text.as_str() == wanted)
+    Ok(Text::from_string(trimmed(password).to_ascii_lowercase(alloc)?))
 }

@@ -1,2 +1,3 @@
-pub mod PermissionSetLemmas
-pub mod OrderLemmas
+mod OrderLemmas
+mod PermissionSetLemmas
+mod SearchLemmas

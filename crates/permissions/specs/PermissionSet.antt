@@ -1,10 +1,9 @@
 -- Which permissions a user has, as Django's `ModelBackend` answers it.
 use Rattle.std.specs.Prelude.{◌≡◌, ◌⊎◌, ℕ, ◌==◌, ◌&&◌, ◌||◌, Bool, true, List, [], ◌∷◌, ◌++◌, All, Contains, map}
-use Rattle.std.specs.List.{Any, filter, fold, list_any}
+use Rattle.std.specs.List.{Any, filter, flat_map, fold, list_any}
 use Rattle.std.specs.BTreeSet.{insert_key}
 use Rattle.std.specs.Cmp.Lexicographic.{slice_cmp}
 use Rattle.std.specs.Ordering.{nat_cmp}
-use Rattle.permissions.specs.declared.permission_set.PermSet.{PermSet}
 use Rattle.permissions.specs.declared.rows.GroupRow.{GroupRow}
 use Rattle.permissions.specs.declared.rows.Holder.{Holder}
 use Rattle.permissions.specs.declared.rows.PermRow.{PermRow}
@@ -17,18 +16,13 @@ name_of row = row.app ++ (46 ∷ row.codename)
 abbrev pub is_listed : List ℕ → ℕ → Bool
 is_listed ids id = list_any (λ listed. listed == id) ids
 
--- the user is in the group, and the group has the permission
-abbrev pub is_given_by : Holder → PermRow → GroupRow → Bool
-is_given_by user row group = is_listed user.groups.now group.id && is_listed group.perms row.id
+-- the ids of the permissions that the user's groups have
+abbrev pub ids_of_groups : Holder → List GroupRow → List ℕ
+ids_of_groups user groups = flat_map (λ (group : GroupRow). group.perms) (filter (λ (group : GroupRow). is_listed user.groups.now group.id) groups)
 
--- a group of the user has the permission
-abbrev pub is_given_by_groups : Holder → List GroupRow → PermRow → Bool
-is_given_by_groups user groups row = list_any (is_given_by user row) groups
-
--- the user has the permission, where `own` lists his own: nothing where he is inactive, everything where
--- he is a superuser
-abbrev pub is_held : List ℕ → Holder → List GroupRow → PermRow → Bool
-is_held own user groups row = user.active && (user.superuser || (is_listed own row.id || is_given_by_groups user groups row))
+-- an active user has a permission that is listed, and an active superuser each
+abbrev pub is_held : Holder → List ℕ → PermRow → Bool
+is_held user ids row = user.active && (user.superuser || is_listed ids row.id)
 
 -- the names in byte order, each once
 unfoldable pub in_order : List (List ℕ) → List (List ℕ)
@@ -42,20 +36,25 @@ names_of test perms = in_order (map name_of (filter test perms))
 abbrev pub has_all : Holder → Bool
 has_all user = user.active && user.superuser
 
--- all permissions of a user
-abbrev pub permissions_of : Holder → List GroupRow → List PermRow → PermSet
-permissions_of user groups perms = record { all = has_all user; names = names_of (is_held user.perms.now user groups) perms }
+-- a set of permissions: whether every question is answered yes, and the names
+pub record Permissions : Type 0 where
+  pub all : Bool
+  pub names : List (List ℕ)
+
+-- all permissions of a user: those of his groups and his own
+abbrev pub permissions_of : Holder → List GroupRow → List PermRow → Permissions
+permissions_of user groups perms = record { all = has_all user; names = names_of (is_held user (ids_of_groups user groups ++ user.perms.now)) perms }
 
 -- those that he has through his groups
-abbrev pub group_permissions_of : Holder → List GroupRow → List PermRow → PermSet
-group_permissions_of user groups perms = record { all = has_all user; names = names_of (is_held [] user groups) perms }
+abbrev pub group_permissions_of : Holder → List GroupRow → List PermRow → Permissions
+group_permissions_of user groups perms = record { all = has_all user; names = names_of (is_held user (ids_of_groups user groups)) perms }
 
 -- the set answers yes to a name
-abbrev pub HasPerm : PermSet → List ℕ → Type 0
+abbrev pub HasPerm : Permissions → List ℕ → Type 0
 HasPerm set name = (set.all ≡ true) ⊎ Contains set.names name
 
 -- the set answers yes to each of the names
-abbrev pub HasPerms : PermSet → List (List ℕ) → Type 0
+abbrev pub HasPerms : Permissions → List (List ℕ) → Type 0
 HasPerms set names = (set.all ≡ true) ⊎ All (Contains set.names) names
 
 -- the name is one of the app: it begins with the app and a dot
@@ -63,5 +62,5 @@ abbrev pub IsOfApp : List ℕ → List ℕ → Type 0
 IsOfApp app name = (codename : List ℕ) × (name ≡ app ++ (46 ∷ codename))
 
 -- the set answers yes to an app
-abbrev pub HasModulePerms : PermSet → List ℕ → Type 0
+abbrev pub HasModulePerms : Permissions → List ℕ → Type 0
 HasModulePerms set app = (set.all ≡ true) ⊎ Any (IsOfApp app) set.names

@@ -58,7 +58,7 @@ fn a_user_has_his_own_and_his_groups_permissions(rt: HostRuntime) {
         "there is memory",
     );
 
-    assert_eq!(rt; all.names, both);
+    assert_eq!(rt; *all.names(), both);
     assert_eq!(rt; has_perm(&all, "blog.add_post"), true);
     assert_eq!(rt; has_perm(&all, "blog.delete_post"), false);
     assert_eq!(rt; has_perms(&all, &both), true);
@@ -66,16 +66,16 @@ fn a_user_has_his_own_and_his_groups_permissions(rt: HostRuntime) {
     assert_eq!(rt; has_module_perms(&all, "blog"), true);
     assert_eq!(rt; has_module_perms(&all, "blo"), false);
 
-    assert_eq!(rt; by_groups.names.items().len(), 1);
+    assert_eq!(rt; by_groups.names().items().len(), 1);
     assert_eq!(rt; has_perm(&by_groups, "blog.change_post"), true);
-    assert_eq!(rt; by_groups.all, false);
+    assert_eq!(rt; by_groups.all(), false);
 }
 
 #[test]
 fn an_inactive_user_has_no_permission(rt: HostRuntime) {
     let (all, by_groups) = sets_of(rt.alloc(), false, true).expect(&rt, "there is memory");
-    assert_eq!(rt; all.all, false);
-    assert_eq!(rt; all.names.items().len(), 0);
+    assert_eq!(rt; all.all(), false);
+    assert_eq!(rt; all.names().items().len(), 0);
     assert_eq!(rt; has_module_perms(&all, "blog"), false);
     assert_eq!(rt; by_groups, all);
 }
@@ -83,7 +83,7 @@ fn an_inactive_user_has_no_permission(rt: HostRuntime) {
 #[test]
 fn a_superuser_has_every_permission(rt: HostRuntime) {
     let (all, by_groups) = sets_of(rt.alloc(), true, true).expect(&rt, "there is memory");
-    assert_eq!(rt; all.names.items().len(), 3);
+    assert_eq!(rt; all.names().items().len(), 3);
     assert_eq!(rt; has_perm(&all, "of no row"), true);
     assert_eq!(rt; has_module_perms(&all, "of no row"), true);
     assert_eq!(rt; by_groups, all);

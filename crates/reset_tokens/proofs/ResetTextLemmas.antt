@@ -10,7 +10,8 @@ use Rattle.std.proofs.lemmas.Str.Parse.{IsNumeralModel, digits_value_short, nume
 use Rattle.pass_hashers.specs.PasswordText.{IsPasswordText}
 use Rattle.pass_hashers.proofs.TextLemmas.{fronts_same, text_begins, text_ends}
 use Rattle.reset_tokens.specs.Laws.{IsRow}
-use Rattle.reset_tokens.specs.Moment.{IsMoment, moment_text}
+use Rattle.crypto_text.specs.Moment.{IsMoment}
+use Rattle.reset_tokens.specs.Moment.{moment_text}
 use Rattle.reset_tokens.specs.ResetToken.{ResetRow, login_text, reset_text}
 use Rattle.reset_tokens.proofs.MomentLemmas.{length-moment_text, moment_text-fifth, moment_text-injective}
 
@@ -67,7 +68,7 @@ login_ends n None (Some t) x y large small first second same = absurd (login_or_
 login_ends n (Some t) None x y large small first second same = absurd (login_or_number n t y (decimal n ++ x) large small (sym same))
 login_ends n (Some t) (Some u) x y large small first second same =
     let parts = fronts_same (moment_text t) (decimal n ++ x) (moment_text u) (decimal n ++ y) same (length-moment_text t ∙ sym (length-moment_text u)) in
-    (ap Some (moment_text-injective t u first.1 second.1 parts.0), (fronts_same (decimal n) x (decimal n) y parts.1 refl).1)
+    (ap Some (moment_text-injective t u first.last second.last parts.0), (fronts_same (decimal n) x (decimal n) y parts.1 refl).1)
 
 pub reset_text_tells : (number : ℕ) (first second : ResetRow) → 10000000 ≤ number → number < 2 ^ 64 → IsRow first → IsRow second
     → reset_text first number ≡ reset_text second number

@@ -1,52 +1,20 @@
--- A token is cut at its one dash.
-use Rattle.std.proofs.Common.{◌↔◌, Bor, MatchOption, Option, None, Some, ◌≡◌, ◌≢◌, ℕ, zero, suc, ◌*◌, ◌/◌, ◌%◌, ◌^◌, ◌<◌, ◌≤◌, ◌==◌, ◌&&◌, not, true, nat_lt, List, [], ◌∷◌, ◌++◌, length, get_or, map, drop, refl, sym, ap, ◌∙◌, subst, inl, inr, arith, lit<}
-use Rattle.std.specs.List.{Contains, range_with_len}
+-- What a token is cut into.
+use Rattle.std.proofs.Common.{◌↔◌, MatchOption, Option, None, Some, ◌≡◌, ◌≢◌, ℕ, zero, suc, ◌*◌, ◌/◌, ◌%◌, ◌^◌, ◌<◌, ◌≤◌, ◌==◌, ◌&&◌, not, true, nat_lt, List, [], ◌∷◌, length, get_or, map, refl, sym, ap, ◌∙◌, subst, inl, inr, arith, lit<}
+use Rattle.std.specs.List.{Any, Contains, range_with_len}
 use Rattle.std.specs.Str.{IsAscii}
 use Rattle.std.proofs.lemmas.Bool.{agree_below_at, cases_lt}
-use Rattle.std.proofs.lemmas.List.{ext_get_or, get_or_default, get_or_past}
+use Rattle.std.proofs.lemmas.List.{ext_get_or, get_or_past}
 use Rattle.std.proofs.lemmas.List.FromFn.{get_or-map-range_with_len}
-use Rattle.std.proofs.lemmas.List.Elements.{All-contains, Contains-append_right}
-use Rattle.std.proofs.lemmas.Str.Pattern.{IsSplitOnceResult, split_parts}
+use Rattle.std.proofs.lemmas.List.Elements.{All-contains}
 use Rattle.crypto_text.specs.Hexadecimal.{hex_digits, hex_text}
 use Rattle.crypto_text.specs.Numeral.{IsNumeral, base36_digits, numeral_of, value_of}
 use Rattle.crypto_text.proofs.NumeralLemmas.{IsDigitTable-base36, base36_digits-no_dash, length-base36_digits}
 use Rattle.crypto_text.proofs.NumeralWriting.{IsNumeral-numeral_of, length-numeral_of-le}
-use Rattle.reset_tokens.specs.Cut.{IsCut}
+use Rattle.crypto_text.specs.Cut.{IsCutAtFirst}
+use Rattle.crypto_text.proofs.CutLemmas.{Contains-joined, first_cut_once, lacks_by_index}
 use Rattle.reset_tokens.specs.ResetToken.{HasNumber, HasShape, IsMade, ResetRow, dash, every_second, mac_of_text, reset_mac, reset_text}
 
--- ---- cuts
-
-pub Contains-joined : (front back : List ℕ) → Contains (front ++ dash ∷ back) dash
-Contains-joined front back = Contains-append_right front (dash ∷ back) dash (0, omega arith, refl)
-
-rest_lacks : (c : ℕ) (rest : List ℕ) → ¬ Contains (c ∷ rest) dash → ¬ Contains rest dash
-rest_lacks c rest none found = none (suc found.0, omega (arith, found.1), found.2)
-
--- two ways to join a text at its first dash are one
-pub cut_same : (a b c d : List ℕ) → a ++ dash ∷ b ≡ c ++ dash ∷ d → ¬ Contains a dash → ¬ Contains c dash → (a ≡ c) × (b ≡ d)
-cut_same [] b [] d same first second = (refl, ap (drop 1) same)
-cut_same [] b (y ∷ c) d same first second = absurd (second (0, omega arith, sym (ap (λ (t : List ℕ). get_or t 0 0) same)))
-cut_same (x ∷ a) b [] d same first second = absurd (first (0, omega arith, ap (λ (t : List ℕ). get_or t 0 0) same))
-cut_same (x ∷ a) b (y ∷ c) d same first second =
-    let head : x ≡ y = ap (λ (t : List ℕ). get_or t 0 0) same in
-    let tail = cut_same a b c d (ap (drop 1) same) (rest_lacks x a first) (rest_lacks y c second) in
-    let whole : (x ∷ a) ≡ (y ∷ c) = rw (head, tail.0) refl in
-    (whole, tail.1)
-
--- a text where no place has a dash
-pub lacks_by_index : (text : List ℕ) → ((i : ℕ) → i < length text → get_or text i 0 ≢ dash) → ¬ Contains text dash
-lacks_by_index text none found = none found.0 found.1 (get_or_default text found.0 0 dash found.1 ∙ found.2)
-
--- what `split_once` gives at a dash
-pub cut_first : (token : List ℕ) (r : Option (Bor (List ℕ) × Bor (List ℕ))) → IsSplitOnceResult dash token r
-    → MatchOption r (¬ Contains token dash) (λ parts. IsCut token parts.0.now parts.1.now)
-cut_first token None split = lacks_by_index token (split_parts dash token None split (omega arith))
-cut_first token (Some parts) split =
-    let cut = split_parts dash token (Some parts) split (omega arith) in
-    record { whole = cut.0; first = lacks_by_index parts.0.now cut.1 }
-
-pub Contains-from_index : (text : List ℕ) (i : ℕ) → i < length text → get_or text i 0 ≡ dash → Contains text dash
-Contains-from_index text i lt is = (i, lt, get_or_default text i dash 0 lt ∙ is)
+-- ---- numerals have no dash
 
 pub numeral_lacks : (digits : List ℕ) (n : ℕ) → IsNumeral base36_digits digits n → ¬ Contains digits dash
 numeral_lacks digits n numeral found = base36_digits-no_dash (All-contains (Contains base36_digits) digits dash numeral.only_digits found)
@@ -95,26 +63,26 @@ pub IsAscii-mac : (bytes : List ℕ) → IsAscii (every_second (hex_text bytes))
 IsAscii-mac bytes i = (mac_plain bytes i).ascii
 
 mac_lacks : (text key : List ℕ) → ¬ Contains (mac_of_text text key) dash
-mac_lacks text key = lacks_by_index _ (λ i lt. (mac_plain _ i).other)
+mac_lacks text key = lacks_by_index dash _ (λ i lt. (mac_plain _ i).other)
 
 -- ---- numbers of tokens
 
 pub HasNumber-same : (token : List ℕ) (m n : ℕ) → HasNumber token m → HasNumber token n → m ≡ n
 HasNumber-same token m n first second =
-    let parts = cut_same first.digits first.mark second.digits second.mark (sym first.whole ∙ second.whole) (numeral_lacks _ m first.numeral) (numeral_lacks _ n second.numeral) in
+    let parts = first_cut_once dash first.digits first.mark second.digits second.mark (sym first.whole ∙ second.whole) (numeral_lacks _ m first.numeral) (numeral_lacks _ n second.numeral) in
     sym first.numeral.value ∙ ap (value_of base36_digits) parts.0 ∙ second.numeral.value
 
 -- what a cut token's number stands on
-pub HasNumber-cut : (token digits mark : List ℕ) (n : ℕ) → IsCut token digits mark → HasNumber token n
+pub HasNumber-cut : (token digits mark : List ℕ) (n : ℕ) → IsCutAtFirst dash token digits mark → HasNumber token n
     → (¬ Contains mark dash) × (IsNumeral base36_digits digits n × (length digits ≤ 13) × (n < 2 ^ 64))
 HasNumber-cut token digits mark n cut has =
-    let parts = cut_same digits mark has.digits has.mark (sym cut.whole ∙ has.whole) cut.first (numeral_lacks _ n has.numeral) in (
+    let parts = first_cut_once dash digits mark has.digits has.mark (sym cut.whole ∙ has.whole) cut.first (numeral_lacks _ n has.numeral) in (
       subst (λ (t : List ℕ). ¬ Contains t dash) (sym parts.1) has.one_dash,
       subst (λ (t : List ℕ). IsNumeral base36_digits t n × (length t ≤ 13) × (n < 2 ^ 64)) (sym parts.0) (has.numeral, has.short, has.fits),
     )
 
 -- a cut token's number is what its first part is read as
-pub HasNumber-read : (token digits mark : List ℕ) (r : Option ℕ) → IsCut token digits mark → ¬ Contains mark dash
+pub HasNumber-read : (token digits mark : List ℕ) (r : Option ℕ) → IsCutAtFirst dash token digits mark → ¬ Contains mark dash
     → ((n : ℕ) → (r ≡ Some n) ↔ (IsNumeral base36_digits digits n × (length digits ≤ 13) × (n < 2 ^ 64)))
     → MatchOption r (¬ HasShape token) (HasNumber token)
 HasNumber-read token digits mark None cut absent reads = λ shape.
@@ -125,7 +93,7 @@ HasNumber-read token digits mark (Some n) cut absent reads =
     record { digits = digits; mark = mark; whole = cut.whole; one_dash = absent; numeral = numeral.0; short = numeral.1; fits = numeral.2 }
 
 pub HasShape-dash : (token : List ℕ) → HasShape token → Contains token dash
-HasShape-dash token shape = subst (λ (t : List ℕ). Contains t dash) (sym shape.1.whole) (Contains-joined shape.1.digits shape.1.mark)
+HasShape-dash token shape = subst (λ (t : List ℕ). Contains t dash) (sym shape.1.whole) (Contains-joined dash shape.1.digits shape.1.mark)
 
 -- a made token has its number
 pub IsMade-number : (token : List ℕ) (row : ResetRow) (n : ℕ) (keys : List (List ℕ)) → IsMade token row n keys → HasNumber token n
@@ -141,22 +109,26 @@ IsMade-number token row n keys made =
       fits = made.fits;
     }
 
--- a token that a key at a place makes is made
-pub IsMade-at : (token : List ℕ) (row : ResetRow) (n : ℕ) (keys : List (List ℕ)) (text key : List ℕ) (at : ℕ) → n < 2 ^ 64 → at < length keys
-    → text ≡ reset_text row n → key ≡ get_or keys at [] → token ≡ numeral_of base36_digits n ++ dash ∷ mac_of_text text key → IsMade token row n keys
-IsMade-at token row n keys text key at small lt text_is key_is token_is = record {
-  key = key;
-  listed = (at, lt, get_or_default keys at key [] lt ∙ sym key_is);
+-- a made token is cut into its number and its MAC
+pub made_is_cut : (token : List ℕ) (row : ResetRow) (n : ℕ) (keys : List (List ℕ)) (digits mark text : List ℕ) → IsCutAtFirst dash token digits mark → text ≡ reset_text row n
+    → IsMade token row n keys → (digits ≡ numeral_of base36_digits n) × Any (λ key. mark ≡ mac_of_text text key) keys
+made_is_cut token row n keys digits mark text cut text_is made =
+    let numeral = IsNumeral-numeral_of base36_digits n IsDigitTable-base36 in
+    let parts = first_cut_once dash digits mark (numeral_of base36_digits n) (reset_mac row n made.key) (sym cut.whole ∙ made.token_is) cut.first (numeral_lacks _ n numeral) in
+    (parts.0, (made.listed.0, made.key, made.listed.1, made.listed.2, parts.1 ∙ ap (λ (t : List ℕ). mac_of_text t made.key) (sym text_is)))
+
+-- and what is cut into them is made
+pub cut_is_made : (token : List ℕ) (row : ResetRow) (n : ℕ) (keys : List (List ℕ)) (digits mark text : List ℕ) → n < 2 ^ 64 → IsCutAtFirst dash token digits mark → text ≡ reset_text row n
+    → digits ≡ numeral_of base36_digits n → Any (λ key. mark ≡ mac_of_text text key) keys → IsMade token row n keys
+cut_is_made token row n keys digits mark text small cut text_is digits_are fits = record {
+  key = fits.1;
+  listed = (fits.0, fits.2, fits.3);
   fits = small;
-  token_is = token_is ∙ ap (λ (t : List ℕ). numeral_of base36_digits n ++ dash ∷ mac_of_text t key) text_is;
+  token_is = cut.whole ∙ rw (digits_are, fits.4, text_is) refl;
 }
 
--- a made token is the one that the key at some place makes
-pub IsMade-key : (token : List ℕ) (row : ResetRow) (n : ℕ) (keys : List (List ℕ)) (text : List ℕ) → text ≡ reset_text row n → (made : IsMade token row n keys)
-    → token ≡ numeral_of base36_digits n ++ dash ∷ mac_of_text text (get_or keys made.listed.0 [])
-IsMade-key token row n keys text text_is made =
-    let here : get_or keys made.listed.0 [] ≡ made.key = get_or_default keys made.listed.0 [] made.key made.listed.1 ∙ made.listed.2 in
-    made.token_is ∙ rw (text_is, here) refl
+pub uncut_unmade : (token : List ℕ) (row : ResetRow) (n : ℕ) (keys : List (List ℕ)) → ¬ Contains token dash → ¬ IsMade token row n keys
+uncut_unmade token row n keys none made = none (HasShape-dash token (n, IsMade-number token row n keys made))
 
 -- what makes a token with a number makes it at that number
 pub IsMade-same : (token : List ℕ) (row : ResetRow) (m n : ℕ) (keys : List (List ℕ)) → HasNumber token m → IsMade token row n keys → (m ≡ n) × IsMade token row m keys

@@ -1,11 +1,11 @@
 -- What reset tokens are good for.
 use Rattle.std.specs.Prelude.{◌≡◌, ◌↔◌, ℕ, ◌-◌, ◌^◌, ◌<◌, ◌≤◌, List, Contains, IfSome}
 use Rattle.pass_hashers.specs.PasswordText.{IsPasswordText}
-use Rattle.reset_tokens.specs.Moment.{IsMoment}
+use Rattle.crypto_text.specs.Moment.{IsMoment}
 use Rattle.reset_tokens.specs.ResetToken.{IsValid, ResetRow, number_at, reset_text, token_text}
 use Rattle.reset_tokens.specs.UserIdText.{IsUidText, IsUserId, uid_text}
 
--- a row as the tables hold it: an id of 64 bits, a password text, and a moment or nothing as the last login
+-- a row as it is in the tables: an id of 64 bits, a password text, and a moment or nothing as the last login
 pub record IsRow (row : ResetRow) : Type 0 where
   pub id : row.id < 2 ^ 64
   pub password : IsPasswordText row.password

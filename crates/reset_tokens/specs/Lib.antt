@@ -1,4 +1,3 @@
-pub mod Cut
 pub mod Laws
 pub mod Moment
 pub mod ResetToken

@@ -1,11 +1,7 @@
--- Moments, in seconds since 1970-01-01 00:00:00 UTC with 86,400 to a day (POSIX.1, "Seconds Since the Epoch"), and the
--- text of one as Python's `str` writes a `datetime` without a fraction: ISO 8601 with a space for the `T`.
-use Rattle.std.specs.Prelude.{ℕ, zero, suc, ◌+◌, ◌/◌, ◌%◌, ◌≤◌, nat_lt, if◌then◌else◌, List, [], ◌∷◌, ◌++◌, pos}
+-- The text of a moment, in seconds since 1970-01-01 00:00:00 UTC with 86,400 to a day (POSIX.1, "Seconds Since the Epoch"), as
+-- Python's `str` writes a `datetime` without a fraction: ISO 8601 with a space for the `T`.
+use Rattle.std.specs.Prelude.{ℕ, zero, suc, ◌+◌, ◌/◌, ◌%◌, nat_lt, if◌then◌else◌, List, [], ◌∷◌, ◌++◌, pos}
 use Rattle.jiff.specs.Words.{days_in_month}
-
--- a moment that this project knows, from September 2001 to the year 9892
-abbrev pub IsMoment : ℕ → Type 0
-IsMoment seconds = (1000000000 ≤ seconds) × (seconds ≤ 250000000000)
 
 -- a day of the Gregorian calendar
 pub record CalendarDay : Type 0 where

@@ -16,7 +16,7 @@ pub record ResetRow : Type 0 where
   pub last_login : Option ℕ
   pub email : List ℕ
 
--- the row that a caller hands in
+-- the row of what a caller gives
 abbrev pub row_of : ResetUser → ResetRow
 row_of user = record { id = user.id; password = user.password.now; last_login = user.last_login; email = user.email.now }
 
@@ -33,7 +33,7 @@ reset_text row number = decimal row.id ++ row.password ++ login_text row.last_lo
 unfoldable pub reset_salt : List ℕ
 reset_salt = codes "django.contrib.auth.tokens.PasswordResetTokenGenerator"
 
--- the digits at the places 0, 2, 4 to 62
+-- the digits at the indices 0, 2, 4 to 62
 unfoldable pub every_second : List ℕ → List ℕ
 every_second digits = map (λ place. slice_index digits (2 * place)) (range_with_len 0 32)
 
@@ -45,7 +45,7 @@ mac_of_text text key = every_second (hex_text (salted_hmac reset_salt text key))
 abbrev pub reset_mac : ResetRow → ℕ → List ℕ → List ℕ
 reset_mac row number key = mac_of_text (reset_text row number) key
 
--- `-`, which stands between the number and the MAC
+-- `-`, between the number and the MAC
 abbrev pub dash : ℕ
 dash = 45
 

@@ -3,8 +3,7 @@
 
 ghost use Rattle.reset_tokens.specs.Laws.{MadeTokenIsValid, ResetTextTells, UidReadsBack};
 
-/// At one number of at least eight digits, no two rows have the same reset text: a token is one
-/// of its account, password, last login and address.
+/// At one number of at least eight digits, no two rows have the same reset text.
 pub fn reset_text_tells()
     ensures { ResetTextTells }
 {}

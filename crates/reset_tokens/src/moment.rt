@@ -1,25 +1,14 @@
-//! Moments, and the text of one as a login's time is written.
+//! The text of a moment, as a login's time is written.
 
-ghost use Rattle.std.specs.Prelude.{◌≡◌, ◌↔◌, pos, ◌*ℤ◌, IfOk, IsTrue, string_bytes};
+ghost use Rattle.std.specs.Prelude.{◌≡◌, pos, ◌*ℤ◌, IfOk, string_bytes};
 ghost use Rattle.jiff.specs.Words.{civil_nanos};
-ghost use Rattle.reset_tokens.specs.Moment.{IsMoment, moment_text};
+ghost use Rattle.crypto_text.specs.Moment.{IsMoment};
+ghost use Rattle.reset_tokens.specs.Moment.{moment_text};
 
 use jiff::Timestamp;
 use jiff::civil::DateTime;
 use jiff::tz::Offset;
 use std::alloc::{AllocError, Global};
-
-const FIRST_MOMENT: u64 = 1_000_000_000;
-
-const LAST_MOMENT: u64 = 250_000_000_000;
-
-/// Whether a number of seconds since 1970 is a moment: from September 2001 to the year 9892. The
-/// bounds are this project's own.
-pub fn is_moment(seconds: u64) -> bool
-    ensures { IsTrue result ↔ IsMoment seconds }
-{
-    FIRST_MOMENT <= seconds && seconds <= LAST_MOMENT
-}
 
 /// The date and time of day of a moment in UTC.
 pub(crate) fn moment_text(alloc: Global, moment: u64) -> Result<String, AllocError>

@@ -1,14 +1,14 @@
 //! What a reset token is a MAC of.
 
 ghost use Rattle.std.specs.Prelude.{◌≡◌, IfOk, IfSome, string_bytes};
-ghost use Rattle.reset_tokens.specs.Moment.{IsMoment};
+ghost use Rattle.crypto_text.specs.Moment.{IsMoment};
 ghost use Rattle.reset_tokens.specs.ResetToken.{login_text, reset_text, row_of};
 
 use crate::moment::moment_text;
 use std::alloc::{AllocError, Global};
 
-/// What a reset token depends on of an account's row.
-#[derive(Clone, Copy, Debug)]
+/// What a reset token depends on of an account's row. It has no `Debug`, so that no password text is printed.
+#[derive(Clone, Copy)]
 pub struct ResetUser<'a> {
     pub id: u64,
     /// The password text, as `pass_hashers` makes it.

@@ -1,33 +1,46 @@
 //! Making and checking reset tokens.
 
-ghost use Rattle.std.specs.Prelude.{◌≡◌, ◌↔◌, ℕ, ◌∷◌, ◌++◌, Contains, IfOk, IfSome, IsAscii, IsErrOf, IsOk, IsTrue, MatchOption, OnOk, string_bytes};
+ghost use Rattle.std.specs.Prelude.{◌≡◌, ◌↔◌, ℕ, ◌∷◌, ◌++◌, Any, IfOk, IfSome, IsAscii, IsErrOf, IsOk, IsTrue, MatchOption, OnOk, string_bytes};
+ghost use Rattle.crypto_text.specs.Moment.{IsMoment};
 ghost use Rattle.crypto_text.specs.Numeral.{base36_digits, numeral_of};
 ghost use Rattle.signing_core.specs.Keys.{key_at};
-ghost use Rattle.reset_tokens.specs.Cut.{IsCut};
-ghost use Rattle.reset_tokens.specs.Moment.{IsMoment};
 ghost use Rattle.reset_tokens.specs.ResetToken.{HasNumber, HasShape, IsExpired, IsMade, IsMismatch, IsValid, dash, every_second, mac_of_text, number_at, row_of, token_text};
 
 use crate::reset_text::{ResetUser, reset_text};
-use crypto_text::{Text, b36_decode, b36_encode, hex_of, salted_hmac, same};
+use crypto_text::{Text, b36_decode, b36_encode, cut_at_first, hex_of, salted_hmac, same};
 use signing_core::Keys;
 use std::alloc::{AllocError, Global};
 use std::str;
+use thiserror::Error;
 
 const SECONDS_TO_2001: u64 = 978_307_200;
 
 const MOST_AGE: u64 = 259_200;
 
 /// Why a token is not taken.
-#[derive(Clone, Copy, Debug, PartialEq, Eq)]
+#[derive(Clone, Copy, Debug, Drop, PartialEq, Eq, Error)]
 pub enum ResetFault {
     /// It isn't a base 36 number of at most 13 digits, below 2^64, and one other part, with a `-`
     /// between and no other one.
+    #[error("not in the form of a token")]
     Shape,
-    /// No listed key makes this token for the user at its number.
+    #[error("no listed key makes this token for the user")]
     Mismatch,
-    /// It was made for the user more than 259,200 seconds ago. The age is in seconds.
+    /// It was made for the user more than 259,200 seconds ago.
+    #[error("too old: {age} seconds")]
     Expired { age: u64 },
+    #[error("out of memory")]
     Memory,
+}
+
+impl From<AllocError> for ResetFault {
+    ghost use Rattle.reset_tokens.specs.declared.reset_token.ResetFault.TheVariants.{Memory};
+
+    ghost from_gives = { λ _ fault. fault ≡ Memory };
+
+    fn from(_fault: AllocError) -> ResetFault {
+        ResetFault::Memory
+    }
 }
 
 /// A token for a user at a moment, under the first key.
@@ -47,7 +60,7 @@ pub fn make_token(
 }
 
 /// Whether a token is valid for a user at a moment, as Django's `check_token`. Refusals come in the
-/// order of the enum, and memory is asked for behind `Shape`. A number whose moment is still to come
+/// order of the enum, and memory is asked for after `Shape`. A number whose moment is still to come
 /// has the age 0.
 pub fn check_token(
     alloc: Global,
@@ -67,9 +80,7 @@ pub fn check_token(
     let Some(number) = number_of(token) else {
         return Err(ResetFault::Shape);
     };
-    let Ok(made) = is_made(alloc, user, keys, token, number) else {
-        return Err(ResetFault::Memory);
-    };
+    let made = is_made(alloc, user, keys, token, number)?;
     if !made {
         return Err(ResetFault::Mismatch);
     }
@@ -83,18 +94,11 @@ pub fn check_token(
 fn number_of(token: &str) -> Option<u64>
     ensures { MatchOption result (¬ HasShape token.now) (HasNumber token.now) }
 {
-    let (digits, mark) = cut(token)?;
+    let (digits, mark) = cut_at_first(token, '-')?;
     if mark.contains('-') {
         return None;
     }
     b36_decode(digits)
-}
-
-// Both sides of the first `-`.
-fn cut(token: &str) -> Option<(&str, &str)>
-    ensures { MatchOption result (¬ Contains token.now dash) (λ parts. IsCut token.now parts.0.now parts.1.now) }
-{
-    token.split_once('-')
 }
 
 // Whether a listed key makes the token for the user at the number.
@@ -109,31 +113,41 @@ fn is_made(
     ensures { IfOk result (λ made. IsTrue made ↔ IsMade token.now (row_of user.now) number keys.now) }
 {
     let text = reset_text(alloc, user, number)?;
-    for at in 0..keys.len() {
-        if is_token_of(alloc, number, text.as_str(), keys.key(at), token)? {
-            return Ok(true);
-        }
+    let numeral = b36_encode(alloc, number)?;
+    let Some((digits, mark)) = cut_at_first(token, '-') else {
+        return Ok(false);
+    };
+    if !same(digits.as_bytes(), numeral.as_str().as_bytes()) {
+        return Ok(false);
     }
-    Ok(false)
+    Ok(is_marked(keys, text.as_str(), mark))
 }
 
-fn is_token_of(
-    alloc: Global,
-    number: u64,
-    text: &str,
-    key: &[u8],
-    token: &str,
-) -> Result<bool, AllocError>
-    ensures { IfOk result (λ is. IsTrue is ↔ (token.now ≡ numeral_of base36_digits number ++ dash ∷ mac_of_text text.now key.now)) }
+// Whether a mark is the MAC of the text under a listed key.
+fn is_marked(keys: &Keys, text: &str, mark: &str) -> bool
+    ensures { IsTrue result ↔ Any (λ key. mark.now ≡ mac_of_text text.now key) keys.now }
 {
-    let made = token_of(alloc, number, text, key)?;
-    Ok(same(token.as_bytes(), made.as_str().as_bytes()))
+    for at in 0..keys.len() {
+        if is_under_key(text, keys.key(at), mark) {
+            return true;
+        }
+    }
+    false
+}
+
+fn is_under_key(text: &str, key: &[u8], mark: &str) -> bool
+    ensures { IsTrue result ↔ (mark.now ≡ mac_of_text text.now key.now) }
+{
+    same(mark.as_bytes(), &mac_of(text, key))
 }
 
 fn token_of(alloc: Global, number: u64, text: &str, key: &[u8]) -> Result<Text, AllocError>
     ensures { IfOk result (λ token. token ≡ numeral_of base36_digits number ++ dash ∷ mac_of_text text.now key.now) }
 {
-    let mut token = b36_encode(alloc, number)?.into_string();
+    let numeral = b36_encode(alloc, number)?;
+    let length = numeral.as_str().len().saturating_add(33);
+    let mut token = String::with_capacity(alloc, length)?;
+    token.push_str(numeral.as_str())?;
     token.push('-')?;
     push_digits(&mut token, &mac_of(text, key))?;
     Ok(Text::from_string(token))

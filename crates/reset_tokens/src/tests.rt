@@ -1,6 +1,6 @@
 use super::*;
 use crate::moment::moment_text;
-use crypto_text::Bytes;
+use crypto_text::{Bytes, is_moment};
 use signing_core::Keys;
 use std::alloc::Global;
 use std::test::Fail;
@@ -82,7 +82,7 @@ fn a_token_is_checked_in_order(rt: HostRuntime) -> Result<(), Fail> {
 }
 
 #[test]
-fn a_token_dies_with_its_row(rt: HostRuntime) -> Result<(), Fail> {
+fn a_token_of_another_row_is_refused(rt: HostRuntime) -> Result<(), Fail> {
     let alloc = rt.alloc();
     let keys = key_list(alloc)?;
     for (id, password, last_login, email) in [
@@ -98,12 +98,28 @@ fn a_token_dies_with_its_row(rt: HostRuntime) -> Result<(), Fail> {
             last_login,
             email,
         };
-        assert!(rt; last_login.is_none_or(is_moment));
+        assert!(rt; last_login.is_none_or(|moment| is_moment(moment)));
         let answer = check_token(alloc, &user, &keys, TOKEN, NOW);
         assert!(rt;
             answer == Err(ResetFault::Mismatch),
             "{id} {password} {email}"
         );
+    }
+    Ok(())
+}
+
+// Logins are counted in whole seconds: a second one within the second of the last leaves the row as it was.
+#[test]
+fn a_token_outlives_a_login_within_the_same_second(rt: HostRuntime) -> Result<(), Fail> {
+    let alloc = rt.alloc();
+    let keys = key_list(alloc)?;
+    for (last_login, answer) in [(NOW, Ok(())), (NOW + 1, Err(ResetFault::Mismatch))] {
+        let again = ResetUser {
+            last_login: Some(last_login),
+            ..ALICE
+        };
+        assert!(rt; is_moment(last_login));
+        assert!(rt; check_token(alloc, &again, &keys, TOKEN, NOW + 1) == answer);
     }
     Ok(())
 }

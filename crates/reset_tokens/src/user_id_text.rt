@@ -1,11 +1,11 @@
-//! User ids as they stand in reset links.
+//! User ids as they are in reset links.
 
 ghost use Rattle.std.specs.Prelude.{◌≡◌, ◌↔◌, ℕ, IfOk, Some};
 ghost use Rattle.std.specs.Fmt.{decimal};
 ghost use Rattle.crypto_text.specs.Rfc4648.{IsBytes};
 ghost use Rattle.reset_tokens.specs.UserIdText.{IsUidText, IsUserId, uid_text};
 
-use crypto_text::{Text, b64url_decode_slice, b64url_encode, decimal_decode};
+use crypto_text::{Text, b64url_decode_slice, b64url_encode, positive_decode};
 use std::alloc::{AllocError, Global};
 use std::str;
 
@@ -35,8 +35,5 @@ fn id_of(digits: &[u8]) -> Option<u64>
     let Ok(text) = str::from_utf8(digits) else {
         return None;
     };
-    match decimal_decode(text) {
-        Some(0) | None => None,
-        Some(id) => Some(id),
-    }
+    positive_decode(text)
 }

@@ -1,23 +1,29 @@
 -- The function that decodes is the definition.
-use Rattle.std.proofs.Common.{◌≡◌, ◌⊎◌, ℕ, ◌^◌, ◌<◌, Bool, true, false, List, [], Contains, None, Option, Some, Result, Ok, Err, arith, cond, inl, inr, nat_lt, refl, sym, ap, ◌∙◌, subst}
+use Rattle.std.proofs.Common.{◌≡◌, ◌↔◌, ◌⊎◌, ℕ, ◌^◌, ◌<◌, Bool, true, false, List, [], Contains, None, Option, Some, Result, Ok, Err, arith, cond, inl, inr, nat_lt, refl, sym, ap, ◌∙◌, subst}
 use Rattle.std.proofs.lemmas.Bool.{lt-ltb, ltb-false, ltb-true}
 use Rattle.std.specs.Option.{IsSomeAnd}
 use Rattle.serde_json.specs.Data.{Data, Members, object}
 use Rattle.serde_json.specs.Find.{as_object}
+use Rattle.ascii_json.specs.declared.reading.JsonFault.{JsonFault}
 use Rattle.ascii_json.specs.Profile.{Reads}
 use Rattle.ascii_json.proofs.WrittenReadsBack.{reads_back}
+use Rattle.signing_core.specs.declared.signed_json.LoadFault.{LoadFault}
+use Rattle.signing_core.specs.declared.signer.TimedFault.TheVariants.{Expired as TimedExpired}
 use Rattle.signing_core.specs.Keys.{key_at}
 use Rattle.signing_core.specs.Signature.{IsAllowed, IsExpired, IsTimestamped, age_at}
 use Rattle.signing_core.specs.SignedJson.{IsDumped}
 use Rattle.signing_core.proofs.SignatureLemmas.{allowed_not_beyond, timestamped_text_tells_value}
 use Rattle.signing_core.proofs.SignedJsonLemmas.{dumped_text_tells_value, dumped_while_listed, reads_once}
-use Rattle.session_codec.specs.Decoding.{is_beyond, map_or_corrupt, members_of_value, outcome, signed_value}
+use Rattle.signing_core.specs.Decoding.{signed_value}
+use Rattle.signing_core.proofs.DecodingLemmas.{signed_value-complete, signed_value-sound}
+use Rattle.session_codec.specs.DecodeFaults.{IsDecodeFaultOf, IsDecodeFaultOfJson}
+use Rattle.session_codec.specs.Decoding.{is_beyond, map_or_corrupt, members_of_value, outcome}
 use Rattle.session_codec.specs.SessionMap.{IsSession}
 use Rattle.session_codec.specs.SessionText.{Encodes, decoded, map_of_payload, max_age_of, payload_of, salt_of, text_of}
 use Rattle.session_codec.specs.declared.session_text.DecodeFault.{DecodeFault}
 use Rattle.session_codec.specs.declared.session_text.DecodeFault.TheVariants.{Corrupt, Expired, Memory}
 use Rattle.session_codec.specs.declared.session_text.SessionKind.{SessionKind}
-use Rattle.session_codec.proofs.DecodingLemmas.{as_object-Some, members_of_json-complete, members_of_json-sound, members_of_value-complete, members_of_value-sound, signed_value-complete, signed_value-sound}
+use Rattle.session_codec.proofs.DecodingLemmas.{as_object-Some, members_of_json-complete, members_of_json-sound, members_of_value-complete, members_of_value-sound}
 
 -- ---- ages
 
@@ -139,6 +145,14 @@ encoded_decodes kind ms signers keys time now session fits listed allowed =
     encodes-decoded kind keys now (text_of kind ms signers time) ms
     (time, dumped_while_listed (object ms) (salt_of kind) (key_at signers 0) time keys session.1 session.0 fits listed, allowed)
 
+pub text_tells_map : (kind other : SessionKind) (keys others : List (List ℕ)) (now later : ℕ) (text : List ℕ) (first second : Members)
+    → decoded kind keys now text ≡ Ok first → decoded other others later text ≡ Ok second → first ≡ second
+text_tells_map kind other keys others now later text first second one two =
+    let a = decoded-encodes kind keys now text first one in
+    let b = decoded-encodes other others later text second two in
+    let same : object first ≡ object second = (dumped_text_tells_value text (salt_of kind) (salt_of other) (object first) (object second) a.0 b.0 keys others a.1 b.1).0 in
+    cc same
+
 -- ---- what was loaded
 
 -- a value that was loaded, for the kind's salt and limit
@@ -179,6 +193,39 @@ pub old_decoded : (kind : SessionKind) (keys : List (List ℕ)) (now : ℕ) (tex
 old_decoded kind keys now text salt max_age age salt_is age_is old =
     expired-decoded kind keys now text age (subst (λ a. IsExpired text [] (salt_of kind) keys now a age) age_is (subst (λ s. IsExpired text [] s keys now max_age age) salt_is old))
 
+-- a text that wasn't loaded, for this fault
+pub record IsRefused (text salt : List ℕ) (keys : List (List ℕ)) (now : ℕ) (max_age : Option ℕ) (fault : LoadFault) : Type 0 where
+  pub unread : (d : Data) (time : ℕ) → IsDumped text d time salt keys → IsAllowed max_age (age_at time now) → fault ≡ LoadFault.Memory
+  pub old : (age : ℕ) → (fault ≡ LoadFault.Timed (TimedExpired age)) ↔ IsExpired text [] salt keys now max_age age
+
+pub refused-expired : (kind : SessionKind) (keys : List (List ℕ)) (now : ℕ) (text salt : List ℕ) (max_age : Option ℕ) (loaded : LoadFault) (fault : DecodeFault) (age : ℕ)
+    → salt ≡ salt_of kind → max_age ≡ max_age_of kind → IsRefused text salt keys now max_age loaded → IsDecodeFaultOf loaded fault
+    → (fault ≡ Expired age) ↔ (decoded kind keys now text ≡ Err (Expired age))
+refused-expired kind keys now text salt max_age loaded fault age salt_is age_is refused comes = (
+  λ is. old_decoded kind keys now text salt max_age age salt_is age_is ((refused.old age).0 ((comes.expired age).0 is)),
+  λ is.
+      let old = decoded-expired kind keys now text age is in
+      let there = subst (λ s. IsExpired text [] s keys now max_age age) (sym salt_is) (subst (λ a. IsExpired text [] (salt_of kind) keys now a age) (sym age_is) old) in
+      (comes.expired age).1 ((refused.old age).1 there),
+)
+
+pub refused-corrupt : (kind : SessionKind) (keys : List (List ℕ)) (now : ℕ) (text salt : List ℕ) (max_age : Option ℕ) (loaded : LoadFault) (fault : DecodeFault)
+    → salt ≡ salt_of kind → max_age ≡ max_age_of kind → IsRefused text salt keys now max_age loaded → IsDecodeFaultOf loaded fault → ¬ (fault ≡ Memory)
+    → (fault ≡ Corrupt) ↔ (decoded kind keys now text ≡ Err Corrupt)
+refused-corrupt kind keys now text salt max_age loaded fault salt_is age_is refused comes other = (
+  λ is. refused_decoded kind keys now text salt max_age salt_is age_is
+      (λ d time dumped allowed. other (comes.memory.1 (refused.unread d time dumped allowed)))
+      (λ age old. let expired = (comes.expired age).1 ((refused.old age).1 old) in absurd (cc (is, expired))),
+  λ corrupt. at fault refl corrupt,
+)
+  where
+    at : (f : DecodeFault) → fault ≡ f → decoded kind keys now text ≡ Err Corrupt → fault ≡ Corrupt
+    at Corrupt is corrupt = is
+    at (Expired age) is corrupt =
+        let old = (refused-expired kind keys now text salt max_age loaded fault age salt_is age_is refused comes).0 is in
+        absurd (cc (old, corrupt))
+    at Memory is corrupt = absurd (other is)
+
 -- ---- payloads
 
 pub payload-read : (text : List ℕ) (ms : Members) → map_of_payload text ≡ Some ms → Reads text (object ms)
@@ -212,3 +259,10 @@ pub payload_tells_map : (first second : Members) → IsSession first → IsSessi
 payload_tells_map first second one other same =
     let both : Some first ≡ Some second = sym (payload_reads_back first one) ∙ ap map_of_payload same ∙ payload_reads_back second other in
     cc both
+
+-- JSON that wasn't read
+pub unread_payload : (text : List ℕ) (read : JsonFault) (fault : DecodeFault) → IsDecodeFaultOfJson read fault → ((¬ (read ≡ JsonFault.Memory)) → read ≡ JsonFault.NotJson → (d : Data) → ¬ Reads text d)
+    → ¬ (fault ≡ Memory) → (fault ≡ Corrupt) ↔ (map_of_payload text ≡ None)
+unread_payload text JsonFault.NotJson fault comes none other =
+    (λ is. other_payload text (λ ms. none (λ memory. absurd (cc)) refl (object ms)), λ is. comes)
+unread_payload text JsonFault.Memory fault comes none other = absurd (other comes)

@@ -3,11 +3,13 @@ use Rattle.std.specs.Prelude.{◌≡◌, ◌≢◌, ◌↔◌, ℕ, ◌^◌, ◌
 use Rattle.serde_json.specs.Data.{Members, object}
 use Rattle.serde_json.specs.Find.{get_member}
 use Rattle.ascii_json.specs.Profile.{Reads}
+use Rattle.crypto_text.specs.Numeral.{positive_of}
 use Rattle.signing_core.specs.Keys.{key_at}
 use Rattle.signing_core.specs.Signature.{IsAllowed, IsExpired, age_at}
 use Rattle.session_codec.specs.declared.session_text.DecodeFault.TheVariants.{Corrupt, Expired}
 use Rattle.session_codec.specs.declared.session_text.SessionKind.{SessionKind}
-use Rattle.session_codec.specs.SessionMap.{IsSession, auth_members, auth_of, user_id_of, without}
+use Rattle.session_codec.specs.declared.session_text.SessionKind.TheVariants.{Stored}
+use Rattle.session_codec.specs.SessionMap.{IsSession, auth_members, auth_of, without}
 use Rattle.session_codec.specs.SessionText.{Encodes, decoded, map_of_payload, max_age_of, payload_of, salt_of, text_of}
 
 -- a text is decoded to a map exactly where it encodes it and isn't too old
@@ -33,6 +35,16 @@ EncodedDecodes = (kind : SessionKind) (ms : Members) (signers keys : List (List 
     → IsSession ms → time < 2 ^ 64 → Contains keys (key_at signers 0) → IsAllowed (max_age_of kind) (age_at time now)
     → decoded kind keys now (text_of kind ms signers time) ≡ Ok ms
 
+-- so what is stored is decoded while that key is listed, however old it is
+abbrev pub StoredDecodes : Type 0
+StoredDecodes = (ms : Members) (signers keys : List (List ℕ)) (time now : ℕ) → IsSession ms → time < 2 ^ 64 → Contains keys (key_at signers 0)
+    → decoded Stored keys now (text_of Stored ms signers time) ≡ Ok ms
+
+-- a text is decoded to one map, whatever the kinds, the keys and the moments
+abbrev pub TextTellsMap : Type 0
+TextTellsMap = (kind other : SessionKind) (keys others : List (List ℕ)) (now later : ℕ) (text : List ℕ) (first second : Members)
+    → decoded kind keys now text ≡ Ok first → decoded other others later text ≡ Ok second → first ≡ second
+
 -- a text is the JSON of this map exactly where it is JSON text of its object
 abbrev pub PayloadIsRead : Type 0
 PayloadIsRead = (text : List ℕ) (ms : Members) → (map_of_payload text ≡ Some ms) ↔ Reads text (object ms)
@@ -45,9 +57,9 @@ PayloadReadsBack = (ms : Members) → IsSession ms → map_of_payload (payload_o
 abbrev pub PayloadTellsMap : Type 0
 PayloadTellsMap = (first second : Members) → IsSession first → IsSession second → payload_of first ≡ payload_of second → first ≡ second
 
--- the id that a text says is the number whose decimal digits it is
+-- a user's id is read where the text is its decimal digits
 abbrev pub UserIdIsDecimal : Type 0
-UserIdIsDecimal = (text : List ℕ) (user : ℕ) → (user_id_of text ≡ Some user) ↔ ((text ≡ decimal user) × (1 ≤ user) × (user < 2 ^ 64))
+UserIdIsDecimal = (text : List ℕ) (user : ℕ) → (positive_of text ≡ Some user) ↔ ((text ≡ decimal user) × (1 ≤ user) × (user < 2 ^ 64))
 
 -- the map of a login says this login
 abbrev pub AuthMembersTell : Type 0

@@ -2,7 +2,7 @@
 use Rattle.std.specs.Prelude.{ℕ, ◌==◌, min, List, [], false, true, if◌then◌else◌, Option, None, Some, codes, decimal, option_and_then, option_map, unwrap_or}
 use Rattle.std.specs.Ordering.{match_ordering, nat_cmp}
 use Rattle.std.specs.Cmp.Lexicographic.{slice_cmp}
-use Rattle.crypto_text.specs.Numeral.{decimal_of}
+use Rattle.crypto_text.specs.Numeral.{positive_of}
 use Rattle.serde_json.specs.Data.{Data, string, object, Members, no_members, member}
 use Rattle.serde_json.specs.Find.{as_number, as_str, as_u64, get_member}
 use Rattle.ascii_json.specs.Profile.{FitsWithin, IsProfile}
@@ -37,21 +37,17 @@ backend_name = codes "_auth_user_backend"
 unfoldable pub hash_name : List ℕ
 hash_name = codes "_auth_user_hash"
 
--- who is logged in, by which backend, and the hash that tells whether the password is still the same
+-- who is logged in, by which backend, and the hash that is compared with that of the password
 pub record SessionAuth : Type 0 where
   pub user : ℕ
   pub backend : List ℕ
   pub hash : List ℕ
 
--- the number from 1 to 2^64 - 1 whose decimal digits, without leading zero, the text is
-unfoldable pub user_id_of : List ℕ → Option ℕ
-user_id_of text = option_and_then (λ n. if n == 0 then None else Some n) (decimal_of text)
-
 -- the login of a map: none without a user's id or without a backend; a hash that is missing is empty
 unfoldable pub auth_of : Members → Option SessionAuth
 auth_of ms =
     option_and_then (λ user. option_map (λ backend. record { user = user; backend = backend; hash = unwrap_or (text_at hash_name ms) [] }) (text_at backend_name ms))
-    (option_and_then user_id_of (text_at user_id_name ms))
+    (option_and_then positive_of (text_at user_id_name ms))
 
 -- the map of a login and nothing else, its names in the order of their bytes
 abbrev pub auth_members : ℕ → List ℕ → List ℕ → Members

@@ -5,7 +5,8 @@ use Rattle.serde_json.specs.Data.{Members, object}
 use Rattle.ascii_json.specs.AsciiJson.{json_of}
 use Rattle.signing_core.specs.Keys.{key_at}
 use Rattle.signing_core.specs.SignedJson.{IsDumped, dumped_text}
-use Rattle.session_codec.specs.Decoding.{members_of_json, outcome, signed_value}
+use Rattle.signing_core.specs.Decoding.{signed_value}
+use Rattle.session_codec.specs.Decoding.{members_of_json, outcome}
 use Rattle.session_codec.specs.declared.session_text.DecodeFault.{DecodeFault}
 use Rattle.session_codec.specs.declared.session_text.SessionKind.{SessionKind}
 use Rattle.session_codec.specs.declared.session_text.SessionKind.TheVariants.{Cookie, Stored}

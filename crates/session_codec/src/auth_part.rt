@@ -1,11 +1,12 @@
-//! Who is logged in, as a session map says it.
+//! Who is logged in, by a session map.
 
 ghost use Rattle.std.specs.Prelude.{◌≡◌, [], IfOk, MatchOption, None, OnOk, Some, option_and_then, option_map, unwrap_or};
+ghost use Rattle.crypto_text.specs.Numeral.{positive_of};
 ghost use Rattle.serde_json.specs.Data.{put, string};
-ghost use Rattle.session_codec.specs.SessionMap.{auth_members, auth_of, backend_name, hash_name, text_at, user_id_name, user_id_of};
+ghost use Rattle.session_codec.specs.SessionMap.{auth_members, auth_of, backend_name, hash_name, text_at, user_id_name};
 
 use crate::session_map::SessionMap;
-use crypto_text::decimal_decode;
+use crypto_text::positive_decode;
 use serde_json::Value;
 use std::alloc::{AllocError, Global};
 
@@ -42,7 +43,7 @@ impl SessionMap {
         Ok(map)
     }
 
-    /// The login that the map says: none where the id under `_auth_user_id` or the backend under
+    /// The login of the map: none where the id under `_auth_user_id` or the backend under
     /// `_auth_user_backend` is missing. Takes no memory.
     pub fn auth_part(&self) -> Option<AuthPart<'_>>
         ensures { MatchOption result (auth_of self.now ≡ None) (λ part. auth_of self.now ≡ Some (record { user = part.user; backend = part.backend.now; hash = part.hash.now })) }
@@ -55,7 +56,7 @@ impl SessionMap {
 }
 
 fn part_of(map: &SessionMap, user: u64) -> Option<AuthPart<'_>>
-    requires { option_and_then user_id_of (text_at user_id_name map.now) ≡ Some user }
+    requires { option_and_then positive_of (text_at user_id_name map.now) ≡ Some user }
     ensures { MatchOption result (auth_of map.now ≡ None) (λ part. auth_of map.now ≡ Some (record { user = part.user; backend = part.backend.now; hash = part.hash.now })) }
 {
     match backend_of(map) {
@@ -73,10 +74,10 @@ fn part_of(map: &SessionMap, user: u64) -> Option<AuthPart<'_>>
 
 #[tactic(auto, unfolding(crate::specs::SessionMap::user_id_name))]
 fn user_of(map: &SessionMap) -> Option<u64>
-    ensures { result ≡ option_and_then user_id_of (text_at user_id_name map.now) }
+    ensures { result ≡ option_and_then positive_of (text_at user_id_name map.now) }
 {
     match text_of(map, USER_ID_NAME) {
-        Some(text) => user_id(text),
+        Some(text) => positive_decode(text),
         None => None,
     }
 }
@@ -95,16 +96,6 @@ fn hash_of(map: &SessionMap) -> &str
     match text_of(map, HASH_NAME) {
         Some(text) => text,
         None => "",
-    }
-}
-
-#[tactic(auto, unfolding(crate::specs::SessionMap::user_id_of))]
-fn user_id(text: &str) -> Option<u64>
-    ensures { result ≡ user_id_of text.now }
-{
-    match decimal_decode(text) {
-        Some(0) | None => None,
-        Some(user) => Some(user),
     }
 }
 

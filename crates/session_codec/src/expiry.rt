@@ -11,7 +11,7 @@ const USUAL_SECONDS: u64 = 1_209_600;
 
 const MOST_SECONDS: u64 = 3_153_600_000;
 
-/// How long a session lasts from now on, and whether the browser forgets it when it is closed.
+/// How long a session lasts from now on, and whether its cookie lasts only until the browser is closed.
 #[derive(Clone, Copy, Debug, PartialEq, Eq)]
 pub struct Expiry {
     pub seconds: u64,

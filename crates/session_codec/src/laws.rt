@@ -1,7 +1,7 @@
 //! Laws about the definitions of this crate. A law is a function that does nothing: its clause is
 //! the law, so the check of the crate proves it.
 
-ghost use Rattle.session_codec.specs.Laws.{AuthMembersTell, DecodedExpires, DecodedIsCorrupt, DecodedIsEncoded, EncodedDecodes, OthersStay, PayloadIsRead, PayloadReadsBack, PayloadTellsMap, TakenAwayIsGone, UserIdIsDecimal};
+ghost use Rattle.session_codec.specs.Laws.{AuthMembersTell, DecodedExpires, DecodedIsCorrupt, DecodedIsEncoded, EncodedDecodes, OthersStay, PayloadIsRead, PayloadReadsBack, PayloadTellsMap, StoredDecodes, TakenAwayIsGone, TextTellsMap, UserIdIsDecimal};
 
 /// `decode` gives a map exactly where the text encodes it and isn't too old.
 pub fn decoded_is_encoded()
@@ -24,6 +24,17 @@ pub fn encoded_decodes()
     ensures { EncodedDecodes }
 {}
 
+/// What `encode` writes for a store, `decode` reads as the same map while the first key of that time
+/// is listed.
+pub fn stored_decodes()
+    ensures { StoredDecodes }
+{}
+
+/// A text that is read twice, under other keys or at another moment, is read as one map.
+pub fn text_tells_map()
+    ensures { TextTellsMap }
+{}
+
 /// `from_payload` gives a map exactly where the text is JSON of its object.
 pub fn payload_is_read()
     ensures { PayloadIsRead }
@@ -44,17 +55,17 @@ pub fn user_id_is_decimal()
     ensures { UserIdIsDecimal }
 {}
 
-/// The map that `SessionMap::of_auth` makes says its login.
+/// The login of the map that `SessionMap::of_auth` makes is the one that it was made of.
 pub fn auth_members_tell()
     ensures { AuthMembersTell }
 {}
 
-/// A name that was taken away isn't there any more.
+/// A name that was removed isn't there any more.
 pub fn taken_away_is_gone()
     ensures { TakenAwayIsGone }
 {}
 
-/// Taking a name away changes no other one.
+/// Removing a name changes no other one.
 pub fn others_stay()
     ensures { OthersStay }
 {}

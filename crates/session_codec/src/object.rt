@@ -21,7 +21,7 @@ pub(crate) fn put_member(
     Ok(())
 }
 
-/// Takes a name and its value away, if it is there.
+/// Removes a name and its value, if it is there.
 #[tactic(auto, using(crate::proofs::MembersLemmas::taken_away))]
 pub(crate) fn take_member(members: &mut Map<String, Value>, name: &str)
     ensures { members_view members.new.entries ≡ without name.now (members_view members.old.entries) }

@@ -17,15 +17,15 @@ use std::marker::Model;
 const MOST_NESTED: usize = 99;
 
 /// JSON values under names, seen as the members of an object: names in byte order, each once. No value
-/// has a float or is nested more than 99 deep.
-#[derive(Debug, Drop)]
+/// has a float or is nested more than 99 deep. It has no `Debug`, so that no session is printed.
+#[derive(Drop)]
 pub struct SessionMap {
     members: Value,
 }
 
 impl Model for SessionMap {
     ghost use Rattle.serde_json.specs.Data.{Members};
-    ghost use Rattle.session_codec.specs.MembersCode.{members_code};
+    ghost use Rattle.ascii_json.specs.MembersCode.{members_code};
 
     ghost Value = { Members };
 
@@ -87,13 +87,16 @@ impl SessionMap {
         self.members.get(key)
     }
 
-    /// Puts a value under a name, in place of the one that was there. `is_session_value` tells which
-    /// values can be put. Want of memory changes nothing.
+    /// Puts a value under a name, in place of the one that was there. Ask `is_session_value` first.
     pub fn set(&mut self, alloc: Global, key: &str, value: Value) -> Result<(), AllocError>
-        requires { IsSessionValue (view value) }
+        requires { FitsWithin 99 (view value) }
         ensures ok { OnOk result (self.new ≡ put key.now (view value) self.old) }
         ensures err { OnErr result (self.new ≡ self.old) }
     {
+        // What memory holds is representable, which the question says.
+        if !is_session_value(&value) {
+            unreachable!();
+        }
         let name = String::from_str(alloc, key)?;
         match self.members.as_object_mut() {
             Some(members) => put_member(members, name, value),
@@ -101,7 +104,7 @@ impl SessionMap {
         }
     }
 
-    /// Takes a name and its value away, if it is there.
+    /// Removes a name and its value, if it is there.
     pub fn remove(&mut self, key: &str)
         ensures { self.new ≡ without key.now self.old }
     {
@@ -111,7 +114,7 @@ impl SessionMap {
         }
     }
 
-    /// Takes all names away.
+    /// Removes all names.
     pub fn clear(&mut self)
         ensures { self.new ≡ no_members }
     {

@@ -9,6 +9,7 @@ use crate::session_map::SessionMap;
 use crypto_text::Text;
 use signing_core::{JsonFault, Keys, LoadFault, TimedFault, dumps, json_ascii, json_read, loads};
 use std::alloc::{AllocError, Global};
+use thiserror::Error;
 
 const STORED_SALT: &str = "django.contrib.sessions.SessionStore";
 
@@ -16,23 +17,55 @@ const COOKIE_SALT: &str = "django.contrib.sessions.backends.signed_cookies";
 
 const MOST_COOKIE_AGE: u64 = 1_209_600;
 
-/// Where a session's text is kept. A text of one kind is corrupt as the other.
+/// Where a session's text is kept; each kind has a salt of its own.
 #[derive(Clone, Copy, Debug, PartialEq, Eq)]
 pub enum SessionKind {
-    /// In a store, which forgets it by itself.
+    /// In a store, which keeps the end of a session itself.
     Stored,
     /// In the browser's cookie: refused when it is older than 1,209,600 seconds.
     Cookie,
 }
 
 /// Why a text is not read as a session.
-#[derive(Clone, Copy, Debug, PartialEq, Eq)]
+#[derive(Clone, Copy, Debug, Drop, PartialEq, Eq, Error)]
 pub enum DecodeFault {
     /// It is no JSON object signed for this kind under a listed key; of a payload, no JSON object.
+    #[error("no session")]
     Corrupt,
-    /// It was signed so many seconds ago, which is too long.
+    #[error("too old: {age} seconds")]
     Expired { age: u64 },
+    #[error("out of memory")]
     Memory,
+}
+
+impl From<LoadFault> for DecodeFault {
+    ghost use Rattle.session_codec.specs.DecodeFaults.{IsDecodeFaultOf};
+
+    ghost from_gives = { IsDecodeFaultOf };
+
+    fn from(fault: LoadFault) -> DecodeFault {
+        match fault {
+            LoadFault::Timed(TimedFault::Expired { age }) => DecodeFault::Expired { age },
+            LoadFault::Timed(_)
+            | LoadFault::Compressed
+            | LoadFault::NotBase64
+            | LoadFault::NotJson => DecodeFault::Corrupt,
+            LoadFault::Memory => DecodeFault::Memory,
+        }
+    }
+}
+
+impl From<JsonFault> for DecodeFault {
+    ghost use Rattle.session_codec.specs.DecodeFaults.{IsDecodeFaultOfJson};
+
+    ghost from_gives = { IsDecodeFaultOfJson };
+
+    fn from(fault: JsonFault) -> DecodeFault {
+        match fault {
+            JsonFault::NotJson => DecodeFault::Corrupt,
+            JsonFault::Memory => DecodeFault::Memory,
+        }
+    }
 }
 
 impl SessionKind {
@@ -68,16 +101,13 @@ pub fn payload(alloc: Global, map: &SessionMap) -> Result<Text, AllocError>
 pub fn from_payload(alloc: Global, text: &str) -> Result<SessionMap, DecodeFault>
     ensures ok { IfOk result (λ map. map_of_payload text.now ≡ Some map) }
     ensures session { IfOk result IsSession }
-    ensures corrupt { IsErrOf result DecodeFault.Corrupt → map_of_payload text.now ≡ None }
+    ensures corrupt { (¬ IsErrOf result DecodeFault.Memory) → (IsErrOf result DecodeFault.Corrupt ↔ (map_of_payload text.now ≡ None)) }
     ensures expired { (age : ℕ) → ¬ IsErrOf result (DecodeFault.Expired age) }
 {
-    match json_read(alloc, text.as_bytes()) {
-        Ok(value) => match SessionMap::of_value(value) {
-            Some(map) => Ok(map),
-            None => Err(DecodeFault::Corrupt),
-        },
-        Err(JsonFault::NotJson) => Err(DecodeFault::Corrupt),
-        Err(JsonFault::Memory) => Err(DecodeFault::Memory),
+    let value = json_read(alloc, text.as_bytes())?;
+    match SessionMap::of_value(value) {
+        Some(map) => Ok(map),
+        None => Err(DecodeFault::Corrupt),
     }
 }
 
@@ -107,26 +137,13 @@ pub fn decode(
 ) -> Result<SessionMap, DecodeFault>
     ensures ok { IfOk result (λ map. decoded kind keys.now now text.now ≡ Ok map) }
     ensures session { IfOk result IsSession }
-    ensures corrupt { IsErrOf result DecodeFault.Corrupt → decoded kind keys.now now text.now ≡ Err Corrupt }
-    ensures expired { (age : ℕ) → IsErrOf result (DecodeFault.Expired age) → decoded kind keys.now now text.now ≡ Err (Expired age) }
+    ensures corrupt { (¬ IsErrOf result DecodeFault.Memory)
+        → (IsErrOf result DecodeFault.Corrupt ↔ (decoded kind keys.now now text.now ≡ Err Corrupt)) }
+    ensures expired { (age : ℕ) → IsErrOf result (DecodeFault.Expired age) ↔ (decoded kind keys.now now text.now ≡ Err (Expired age)) }
 {
-    match loads(alloc, text, kind.salt(), keys, now, kind.max_age()) {
-        Ok(value) => match SessionMap::of_value(value) {
-            Some(map) => Ok(map),
-            None => Err(DecodeFault::Corrupt),
-        },
-        Err(fault) => Err(fault_of(fault)),
-    }
-}
-
-fn fault_of(fault: LoadFault) -> DecodeFault
-    ensures expired { (age : ℕ) → (result ≡ DecodeFault.Expired age) ↔ (fault ≡ LoadFault.Timed (TimedFault.Expired age)) }
-    ensures memory { (result ≡ DecodeFault.Memory) ↔ (fault ≡ LoadFault.Memory) }
-{
-    match fault {
-        LoadFault::Timed(TimedFault::Expired { age }) => DecodeFault::Expired { age },
-        LoadFault::Timed(_) | LoadFault::Compressed | LoadFault::NotBase64 | LoadFault::NotJson =>
-            DecodeFault::Corrupt,
-        LoadFault::Memory => DecodeFault::Memory,
-    }
+    let value = loads(alloc, text, kind.salt(), keys, now, kind.max_age())?;
+    let Some(map) = SessionMap::of_value(value) else {
+        return Err(DecodeFault::Corrupt);
+    };
+    Ok(map)
 }

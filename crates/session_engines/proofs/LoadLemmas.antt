@@ -1,61 +1,67 @@
 -- A load, put together from what it reads.
-use Rattle.std.proofs.Common.{◌≡◌, ℕ, List, Option, Some, None, subst}
-use Rattle.std.specs.Prelude.{IfOk, Result, Ok, Err}
+use Rattle.std.proofs.Common.{◌≡◌, ℕ, List, Bool, true, false, Option, Some, None, ap, refl, sym, subst, ◌∙◌}
+use Rattle.std.specs.Prelude.{if◌then◌else◌}
 use Rattle.serde_json.specs.Data.{Members}
 use Rattle.session_codec.specs.SessionMap.{auth_of}
-use Rattle.ledger_rows.specs.Admission.{auth_in, named_user, session_map, session_text}
-use Rattle.ledger_rows.specs.State.{State}
-use Rattle.ledger_rows.specs.Step.{answer_on, loaded}
+use Rattle.ledger_rows.specs.Admission.{auth_in, is_short, named_user, session_map, session_text}
+use Rattle.ledger_rows.specs.State.{rows_of}
+use Rattle.ledger_rows.specs.Step.{admitted_user, answer_on, empty_payload, loaded}
+use Rattle.ledger_rows.specs.Tables.{Tables}
 use Rattle.ledger_rows.specs.declared.reply.Reply.{Reply}
+use Rattle.ledger_rows.specs.declared.reply.Reply.TheVariants.{Loaded}
 use Rattle.ledger_rows.specs.declared.rows.Backend.{Backend}
-use Rattle.ledger_rows.specs.declared.rows.UserRow.{UserRow}
-use Rattle.keepers.specs.Keeper.{Contents, Report, Unreported, Fresh, Holding, OnHolding}
+use Rattle.ledger_rows.specs.declared.rows.Cfg.{Cfg}
+use Rattle.ledger_rows.specs.declared.rows.Engine.{Engine}
+use Rattle.ledger_rows.specs.declared.rows.Engine.TheVariants.{Db}
+use Rattle.ledger_rows.specs.declared.verdict.Verdict.{Verdict}
+use Rattle.ledger_rows.specs.declared.verdict.Verdict.TheVariants.{NoCookie, NotStored}
+use Rattle.session_engines.specs.Loading.{corrupt, judged, loaded_text, unstored}
+use Rattle.session_engines.specs.Taking.{uncached}
 
--- what follows of all contents from two facts follows of those that are reported
-pub on_holding_both : (report : Report) (P Q R : Contents → Type 0) → OnHolding report P → OnHolding report Q
-    → ((contents : Contents) → P contents → Q contents → R contents) → OnHolding report R
-on_holding_both Unreported P Q R p q each = tt
-on_holding_both Fresh P Q R p q each = tt
-on_holding_both (Holding contents) P Q R p q each = each contents p q
+-- the engine `Db` sees the sessions of the tables
+rows_of-uncached : (engine : Engine) (tables : Tables) → rows_of engine (uncached tables) ≡ tables.sessions
+rows_of-uncached Db tables = refl
 
--- the same of one fact
-pub on_holding_one : (report : Report) (P R : Contents → Type 0) → OnHolding report P → ((contents : Contents) → P contents → R contents) → OnHolding report R
-on_holding_one Unreported P R p each = tt
-on_holding_one Fresh P R p each = tt
-on_holding_one (Holding contents) P R p each = each contents p
+-- the reply by the text that is found
+reply_on : Cfg → Tables → Option (List ℕ) → ℕ → Option (List ℕ) → Reply
+reply_on cfg tables cookie now text =
+    answer_on cfg.backends tables.keys cookie text (session_map tables.keys now text) (named_user tables.users (auth_in (session_map tables.keys now text)))
 
--- what follows of each value follows of a result
-pub if_ok_map : {A E : Type 0} (P Q : A → Type 0) (result : Result A E) → IfOk result P → ((value : A) → P value → Q value) → IfOk result Q
-if_ok_map P Q (Ok value) is each = each value is
-if_ok_map P Q (Err fault) is each = tt
+loaded-by_text : (cfg : Cfg) (tables : Tables) (cookie : Option (List ℕ)) (now : ℕ) (text : Option (List ℕ))
+    → text ≡ session_text tables.sessions cookie now → reply_on cfg tables cookie now text ≡ loaded cfg (uncached tables) cookie now
+unfolding reply_on
+loaded-by_text cfg tables cookie now text found =
+    ap (reply_on cfg tables cookie now) (found ∙ ap (λ rows. session_text rows cookie now) (sym (rows_of-uncached cfg.engine tables)))
 
 -- with a text under the cookie
-pub loaded_text : (backends : List Backend) (state : State) (cookie : Option (List ℕ)) (now : ℕ) (text : List ℕ) (reply : Reply)
-    → Some text ≡ session_text state.sessions cookie now
-    → reply ≡ answer_on backends state.keys cookie (Some text) (session_map state.keys now (Some text)) (named_user state.users (auth_in (session_map state.keys now (Some text))))
-    → reply ≡ loaded backends state cookie now
-loaded_text backends state cookie now text reply found is =
-    subst (λ (t : Option (List ℕ)). reply ≡ answer_on backends state.keys cookie t (session_map state.keys now t) (named_user state.users (auth_in (session_map state.keys now t)))) found is
+pub loaded-found : (cfg : Cfg) (tables : Tables) (cookie : Option (List ℕ)) (now : ℕ) (text : List ℕ)
+    → Some text ≡ session_text tables.sessions cookie now → loaded_text cfg.backends tables cookie now text ≡ loaded cfg (uncached tables) cookie now
+unfolding reply_on
+loaded-found cfg tables cookie now text found = loaded-by_text cfg tables cookie now (Some text) found
 
 -- without one
-pub loaded_none : (backends : List Backend) (state : State) (cookie : Option (List ℕ)) (now : ℕ) (reply : Reply)
-    → None ≡ session_text state.sessions cookie now → reply ≡ answer_on backends state.keys cookie None None None → reply ≡ loaded backends state cookie now
-loaded_none backends state cookie now reply found is =
-    subst (λ (t : Option (List ℕ)). reply ≡ answer_on backends state.keys cookie t (session_map state.keys now t) (named_user state.users (auth_in (session_map state.keys now t)))) found is
+unstored-by : (b : Bool) (backends : List Backend) (keys : List (List ℕ))
+    → Loaded (if b then NoCookie else NotStored) None empty_payload None
+    ≡ Loaded (if b then NoCookie else NotStored) None empty_payload (admitted_user (if b then NoCookie else NotStored) keys None)
+unstored-by true backends keys = refl
+unstored-by false backends keys = refl
 
--- with a text, by what it is read as under the keys that were read
-pub read_text : (backends : List Backend) (state : State) (keys : List (List ℕ)) (cookie : Option (List ℕ)) (now : ℕ) (text : List ℕ) (map : Option Members) (reply : Reply)
-    → keys ≡ state.keys → map ≡ session_map keys now (Some text)
-    → reply ≡ answer_on backends keys cookie (Some text) map (named_user state.users (auth_in map))
-    → reply ≡ answer_on backends state.keys cookie (Some text) (session_map state.keys now (Some text)) (named_user state.users (auth_in (session_map state.keys now (Some text))))
-read_text backends state keys cookie now text map reply keys_are map_is is =
-    subst (λ (k : List (List ℕ)). reply ≡ answer_on backends k cookie (Some text) (session_map k now (Some text)) (named_user state.users (auth_in (session_map k now (Some text))))) keys_are
-    (subst (λ (m : Option Members). reply ≡ answer_on backends keys cookie (Some text) m (named_user state.users (auth_in m))) map_is is)
+pub loaded-unstored : (cfg : Cfg) (tables : Tables) (cookie : Option (List ℕ)) (now : ℕ)
+    → None ≡ session_text tables.sessions cookie now → unstored cookie ≡ loaded cfg (uncached tables) cookie now
+unfolding reply_on
+loaded-unstored cfg tables cookie now none =
+    unstored-by (is_short cookie) cfg.backends tables.keys ∙ loaded-by_text cfg tables cookie now None none
 
--- with a map, by the user who was read
-pub read_user : (backends : List Backend) (state : State) (keys : List (List ℕ)) (cookie : Option (List ℕ)) (map : Members) (user : Option UserRow) (reply : Reply)
-    → user ≡ named_user state.users (auth_of map)
-    → ((text : List ℕ) → reply ≡ answer_on backends keys cookie (Some text) (Some map) user)
-    → (text : List ℕ) → reply ≡ answer_on backends keys cookie (Some text) (Some map) (named_user state.users (auth_of map))
-read_user backends state keys cookie map user reply user_is is text =
-    subst (λ (u : Option UserRow). reply ≡ answer_on backends keys cookie (Some text) (Some map) u) user_is (is text)
+-- what a text is read as
+pub loaded_text-read : (backends : List Backend) (tables : Tables) (keys : List (List ℕ)) (cookie : Option (List ℕ)) (now : ℕ) (text : List ℕ) (map : Members)
+    → keys ≡ tables.keys → Some map ≡ session_map keys now (Some text)
+    → judged backends keys cookie map (named_user tables.users (auth_of map)) ≡ loaded_text backends tables cookie now text
+loaded_text-read backends tables keys cookie now text map keys_are read =
+    ap (λ m. answer_on backends keys cookie (Some text) m (named_user tables.users (auth_in m))) read
+    ∙ ap (λ k. answer_on backends k cookie (Some text) (session_map k now (Some text)) (named_user tables.users (auth_in (session_map k now (Some text))))) keys_are
+
+pub loaded_text-corrupt : (backends : List Backend) (tables : Tables) (keys : List (List ℕ)) (cookie : Option (List ℕ)) (now : ℕ) (text : List ℕ)
+    → keys ≡ tables.keys → None ≡ session_map keys now (Some text) → corrupt cookie ≡ loaded_text backends tables cookie now text
+loaded_text-corrupt backends tables keys cookie now text keys_are read =
+    ap (λ m. answer_on backends keys cookie (Some text) m (named_user tables.users (auth_in m))) read
+    ∙ ap (λ k. answer_on backends k cookie (Some text) (session_map k now (Some text)) (named_user tables.users (auth_in (session_map k now (Some text))))) keys_are

@@ -1,4 +1,6 @@
 -- What the public contracts of this crate and of those above it cite.
 pub mod Ledger
+pub mod Loading
+pub mod OpenFault
 pub mod Start
-pub mod StartFault
+pub mod Taking

@@ -1,10 +1,15 @@
 //! The ledger of a site: `Ledger::step` does one operation over a keeper and enters it in the audit list. Its
-//! reply and the tables that it leaves are `Step.reply_to` and `Step.state_after` of the tables that it found.
+//! reply and the tables that it leaves are `Step.reply_to` and `Step.state_after` of the state that it found.
 #![tactic(auto)]
 
+mod answer;
 mod ledger;
 mod load;
-#[cfg(test)]
-mod tests;
+mod open_fault;
+mod start;
+mod step;
+mod step_fault;
 
-pub use crate::ledger::{Ledger, OpenFault, StepFault};
+pub use crate::ledger::Ledger;
+pub use crate::open_fault::OpenFault;
+pub use crate::step_fault::StepFault;

@@ -1,35 +1,52 @@
 //! The operation `Load`: who is asking.
 
-ghost use Rattle.std.specs.Prelude.{◌≡◌, ℕ, List, None, Some, IfOk};
+ghost use Rattle.std.specs.Prelude.{◌≡◌, IfOk, IfSome, Some};
 ghost use Rattle.std.specs.Option.{option_copied};
 ghost use Rattle.session_codec.specs.SessionMap.{auth_of};
-ghost use Rattle.ledger_rows.specs.Admission.{IsRowOf, auth_in, is_short, named_user, session_map, session_text, verdict_on_auth};
-ghost use Rattle.ledger_rows.specs.declared.rows.Backend.{Backend as BackendSpec};
-ghost use Rattle.ledger_rows.specs.Step.{admitted_user, answer_on, loaded, user_read};
-ghost use Rattle.keepers.specs.Keeper.{HasStoreCause, MayHold, OnHolding};
-ghost use Rattle.session_engines.specs.Ledger.{IsLoaded};
+ghost use Rattle.session_codec.specs.SessionText.{payload_of};
+ghost use Rattle.ledger_rows.specs.Admission.{IsRowOf, is_short, named_user, session_map, session_text, verdict_on_auth};
+ghost use Rattle.ledger_rows.specs.Replies.{IsPayload};
+ghost use Rattle.ledger_rows.specs.Rows.{IsSoundUser};
+ghost use Rattle.ledger_rows.specs.Step.{admitted_user, empty_payload, loaded};
+ghost use Rattle.keepers.specs.Keeper.{Answers, MayHold, OnlyReads};
+ghost use Rattle.session_engines.specs.Loading.{IsLoadReply, corrupt, judged, loaded_text, unstored};
+ghost use Rattle.session_engines.specs.Taking.{IsAnswer, uncached};
 
+use crate::answer::Answer;
 use crypto_text::Text;
 use keepers::{Keeper, KeeperFault};
-use ledger_rows::{Cfg, Reply, UserRead, UserRow, Verdict, admit, session_auth_text};
+use ledger_rows::{Cfg, Judgement, Op, Reply, UserRow, Verdict, judge};
 use session_codec::{DecodeFault, SessionKind, SessionMap, decode, payload};
 use signing_core::Keys;
 use std::alloc::{AllocError, Global};
 
-/// What a load of a cookie answers at a moment. The store is only read.
+/// Answers a load of a cookie at a moment. A cookie under which nothing is stored costs one look-up.
 pub fn load<K: Keeper>(
     alloc: Global,
     keeper: &mut K,
     cfg: &Cfg,
     cookie: Option<&Text>,
     now: u64,
+) -> Result<Answer, KeeperFault>
+    requires { MayHold (K.seen keeper.old).report }
+    ensures ok { IfOk result (IsAnswer cfg.now (Op.Load (option_copied cookie.entry) now) (K.seen keeper.old)) }
+    ensures reads { OnlyReads (K.seen keeper.old) (K.seen keeper.new) result }
+{
+    let reply = loaded(alloc, keeper, cfg, cookie, now)?;
+    Ok(Answer::unchanged(alloc, reply))
+}
+
+fn loaded<K: Keeper>(
+    alloc: Global,
+    keeper: &mut K,
+    cfg: &Cfg,
+    cookie: Option<&Text>,
+    now: u64,
 ) -> Result<Reply, KeeperFault>
-    requires { MayHold (K.report keeper.old) }
-    ensures reply { IfOk result (λ reply. OnHolding (K.report keeper.old) (λ contents. reply ≡ loaded cfg.now.backends contents.tables (option_copied cookie.entry) now)) }
-    ensures kind { IfOk result IsLoaded }
-    ensures same { K.report keeper.new ≡ K.report keeper.old }
-    ensures entries { K.entry_count keeper.new ≡ K.entry_count keeper.old }
-    ensures faults { HasStoreCause (K.faults keeper.old) (K.faults keeper.new) result }
+    requires { MayHold (K.seen keeper.old).report }
+    ensures value { Answers (K.seen keeper.old) result (λ tables. loaded cfg.now (uncached tables) (option_copied cookie.entry) now) }
+    ensures kind { IfOk result IsLoadReply }
+    ensures reads { OnlyReads (K.seen keeper.old) (K.seen keeper.new) result }
 {
     match live_text(alloc, keeper, cookie, now)? {
         Some(text) => load_text(alloc, keeper, cfg, cookie, text.as_str(), now),
@@ -43,11 +60,9 @@ fn live_text<K: Keeper>(
     cookie: Option<&Text>,
     now: u64,
 ) -> Result<Option<Text>, KeeperFault>
-    requires { MayHold (K.report keeper.old) }
-    ensures value { IfOk result (λ text. OnHolding (K.report keeper.old) (λ contents. text ≡ session_text contents.tables.sessions (option_copied cookie.entry) now)) }
-    ensures same { K.report keeper.new ≡ K.report keeper.old }
-    ensures entries { K.entry_count keeper.new ≡ K.entry_count keeper.old }
-    ensures faults { HasStoreCause (K.faults keeper.old) (K.faults keeper.new) result }
+    requires { MayHold (K.seen keeper.old).report }
+    ensures value { Answers (K.seen keeper.old) result (λ tables. session_text tables.sessions (option_copied cookie.entry) now) }
+    ensures reads { OnlyReads (K.seen keeper.old) (K.seen keeper.new) result }
 {
     match cookie {
         Some(key) if key.as_str().len() >= 8 => match keeper.session(alloc, key.as_str())? {
@@ -66,12 +81,10 @@ fn load_text<K: Keeper>(
     text: &str,
     now: u64,
 ) -> Result<Reply, KeeperFault>
-    requires { MayHold (K.report keeper.old) }
-    ensures reply { IfOk result (λ reply. OnHolding (K.report keeper.old) (λ contents. reply ≡ answer_on cfg.now.backends contents.tables.keys (option_copied cookie.entry) (Some text.now) (session_map contents.tables.keys now (Some text.now)) (named_user contents.tables.users (auth_in (session_map contents.tables.keys now (Some text.now)))))) }
-    ensures kind { IfOk result IsLoaded }
-    ensures same { K.report keeper.new ≡ K.report keeper.old }
-    ensures entries { K.entry_count keeper.new ≡ K.entry_count keeper.old }
-    ensures faults { HasStoreCause (K.faults keeper.old) (K.faults keeper.new) result }
+    requires { MayHold (K.seen keeper.old).report }
+    ensures value { Answers (K.seen keeper.old) result (λ tables. loaded_text cfg.now.backends tables (option_copied cookie.entry) now text.now) }
+    ensures kind { IfOk result IsLoadReply }
+    ensures reads { OnlyReads (K.seen keeper.old) (K.seen keeper.new) result }
 {
     let keys = keeper.keys(alloc)?;
     match map_of(alloc, &keys, text, now)? {
@@ -88,12 +101,10 @@ fn load_map<K: Keeper>(
     cookie: Option<&Text>,
     map: &SessionMap,
 ) -> Result<Reply, KeeperFault>
-    requires { MayHold (K.report keeper.old) }
-    ensures reply { IfOk result (λ reply. OnHolding (K.report keeper.old) (λ contents. (text : List ℕ) → reply ≡ answer_on cfg.now.backends keys.now (option_copied cookie.entry) (Some text) (Some map.now) (named_user contents.tables.users (auth_of map.now)))) }
-    ensures kind { IfOk result IsLoaded }
-    ensures same { K.report keeper.new ≡ K.report keeper.old }
-    ensures entries { K.entry_count keeper.new ≡ K.entry_count keeper.old }
-    ensures faults { HasStoreCause (K.faults keeper.old) (K.faults keeper.new) result }
+    requires { MayHold (K.seen keeper.old).report }
+    ensures value { Answers (K.seen keeper.old) result (λ tables. judged cfg.now.backends keys.now (option_copied cookie.entry) map.now (named_user tables.users (auth_of map.now))) }
+    ensures kind { IfOk result IsLoadReply }
+    ensures reads { OnlyReads (K.seen keeper.old) (K.seen keeper.new) result }
 {
     let user = user_of(alloc, keeper, map)?;
     Ok(judged(alloc, cfg, keys, cookie, map, user)?)
@@ -104,12 +115,11 @@ fn user_of<K: Keeper>(
     keeper: &mut K,
     map: &SessionMap,
 ) -> Result<Option<UserRow>, KeeperFault>
-    requires { MayHold (K.report keeper.old) }
-    ensures value { IfOk result (λ user. OnHolding (K.report keeper.old) (λ contents. user ≡ named_user contents.tables.users (auth_of map.now))) }
+    requires { MayHold (K.seen keeper.old).report }
+    ensures value { Answers (K.seen keeper.old) result (λ tables. named_user tables.users (auth_of map.now)) }
     ensures row { IfOk result (IsRowOf (auth_of map.now)) }
-    ensures same { K.report keeper.new ≡ K.report keeper.old }
-    ensures entries { K.entry_count keeper.new ≡ K.entry_count keeper.old }
-    ensures faults { HasStoreCause (K.faults keeper.old) (K.faults keeper.new) result }
+    ensures sound { IfOk result (λ user. IfSome user IsSoundUser) }
+    ensures reads { OnlyReads (K.seen keeper.old) (K.seen keeper.new) result }
 {
     match map.auth_part() {
         Some(part) => keeper.user_by_id(alloc, part.user),
@@ -127,15 +137,16 @@ fn map_of(
 {
     match decode(alloc, text, SessionKind::Stored, keys, now) {
         Ok(map) => Ok(Some(map)),
-        Err(DecodeFault::Corrupt) | Err(DecodeFault::Expired { .. }) => Ok(None),
         Err(DecodeFault::Memory) => Err(AllocError),
+        Err(DecodeFault::Corrupt) => Ok(None),
+        Err(DecodeFault::Expired { .. }) => Ok(None),
     }
 }
 
 // No session that isn't over is stored under the cookie.
 fn unstored(alloc: Global, cookie: Option<&Text>) -> Result<Reply, AllocError>
-    ensures kind { IfOk result IsLoaded }
-    ensures value { IfOk result (λ reply. (backends : List BackendSpec) (keys : List (List ℕ)) → reply ≡ answer_on backends keys (option_copied cookie.entry) None None None) }
+    ensures value { IfOk result (λ reply. reply ≡ unstored (option_copied cookie.entry)) }
+    ensures kind { IfOk result IsLoadReply }
 {
     let verdict = if is_short(cookie) {
         Verdict::NoCookie
@@ -145,7 +156,7 @@ fn unstored(alloc: Global, cookie: Option<&Text>) -> Result<Reply, AllocError>
     Ok(Reply::Loaded {
         verdict,
         key: None,
-        payload: Text::of(alloc, "{}")?,
+        payload: empty_payload(alloc)?,
         user: None,
     })
 }
@@ -161,15 +172,29 @@ fn is_short(cookie: Option<&Text>) -> bool
 
 // What is stored under the cookie can't be read.
 fn corrupt(alloc: Global, cookie: Option<&Text>) -> Result<Reply, AllocError>
-    ensures kind { IfOk result IsLoaded }
-    ensures value { IfOk result (λ reply. (backends : List BackendSpec) (keys : List (List ℕ)) (text : List ℕ) → reply ≡ answer_on backends keys (option_copied cookie.entry) (Some text) None None) }
+    ensures value { IfOk result (λ reply. reply ≡ corrupt (option_copied cookie.entry)) }
+    ensures kind { IfOk result IsLoadReply }
 {
     Ok(Reply::Loaded {
         verdict: Verdict::Corrupt,
         key: cookie.map(|text| text.copy(alloc)).transpose()?,
-        payload: Text::of(alloc, "{}")?,
+        payload: empty_payload(alloc)?,
         user: None,
     })
+}
+
+fn empty_payload(alloc: Global) -> Result<Text, AllocError>
+    ensures value { IfOk result (λ text. text ≡ empty_payload) }
+    ensures payload { IfOk result IsPayload }
+{
+    payload_text(alloc, &SessionMap::new(alloc))
+}
+
+fn payload_text(alloc: Global, map: &SessionMap) -> Result<Text, AllocError>
+    ensures value { IfOk result (λ text. text ≡ payload_of map.now) }
+    ensures payload { IfOk result IsPayload }
+{
+    Ok(payload(alloc, map)?)
 }
 
 // What is stored under the cookie was read.
@@ -181,46 +206,33 @@ fn judged(
     map: &SessionMap,
     user: Option<UserRow>,
 ) -> Result<Reply, AllocError>
-    requires { IsRowOf (auth_of map.now) user }
-    ensures kind { IfOk result IsLoaded }
-    ensures value { IfOk result (λ reply. (text : List ℕ) → reply ≡ answer_on cfg.now.backends keys.now (option_copied cookie.entry) (Some text) (Some map.now) user) }
+    requires row { IsRowOf (auth_of map.now) user }
+    requires sound { IfSome user IsSoundUser }
+    ensures value { IfOk result (λ reply. reply ≡ judged cfg.now.backends keys.now (option_copied cookie.entry) map.now user) }
+    ensures kind { IfOk result IsLoadReply }
 {
-    let verdict = verdict_on(cfg, keys, map, user.as_ref());
+    let found = judgement(alloc, cfg, keys, map, user)?;
     Ok(Reply::Loaded {
-        verdict,
+        verdict: found.verdict,
         key: cookie.map(|text| text.copy(alloc)).transpose()?,
-        payload: payload(alloc, map)?,
-        user: admitted_user(alloc, verdict, keys, user)?,
+        payload: payload_text(alloc, map)?,
+        user: found.user,
     })
 }
 
-fn verdict_on(cfg: &Cfg, keys: &Keys, map: &SessionMap, user: Option<&UserRow>) -> Verdict
-    requires { IsRowOf (auth_of map.now) (option_copied user) }
-    ensures { result ≡ verdict_on_auth cfg.now.backends keys.now (auth_of map.now) (option_copied user.entry) }
+fn judgement(
+    alloc: Global,
+    cfg: &Cfg,
+    keys: &Keys,
+    map: &SessionMap,
+    user: Option<UserRow>,
+) -> Result<Judgement, AllocError>
+    requires { IsRowOf (auth_of map.now) user }
+    ensures verdict { IfOk result (λ found. found.verdict ≡ verdict_on_auth cfg.now.backends keys.now (auth_of map.now) user) }
+    ensures user { IfOk result (λ found. found.user ≡ admitted_user found.verdict keys.now user) }
 {
     match map.auth_part() {
-        Some(part) => admit(Some(&part), cfg.backends.items(), user, keys),
-        None => admit(None, cfg.backends.items(), user, keys),
+        Some(part) => judge(alloc, Some(&part), cfg.backends.items(), user, keys),
+        None => judge(alloc, None, cfg.backends.items(), user, keys),
     }
-}
-
-fn admitted_user(
-    alloc: Global,
-    verdict: Verdict,
-    keys: &Keys,
-    user: Option<UserRow>,
-) -> Result<Option<UserRead>, AllocError>
-    ensures { IfOk result (λ read. read ≡ admitted_user verdict keys.now user) }
-{
-    match (verdict, user) {
-        (Verdict::Admitted { .. }, Some(row)) => Ok(Some(user_read(alloc, keys, row)?)),
-        _ => Ok(None),
-    }
-}
-
-fn user_read(alloc: Global, keys: &Keys, row: UserRow) -> Result<UserRead, AllocError>
-    ensures { IfOk result (λ read. read ≡ user_read keys.now row) }
-{
-    let auth_hash = session_auth_text(alloc, row.password.as_str(), keys.first())?;
-    Ok(UserRead { row, auth_hash })
 }

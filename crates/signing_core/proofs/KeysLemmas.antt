@@ -5,7 +5,8 @@ use Rattle.std.proofs.lemmas.Bool.{cases_order}
 use Rattle.std.proofs.lemmas.List.{get_or_default, get_or-take, length-take-le, take_all, take_more}
 use Rattle.std.proofs.lemmas.List.Elements.{All-push}
 use Rattle.std.proofs.lemmas.List.Quantifiers.{all_pairs_push}
-use Rattle.signing_core.specs.Keys.{AreDifferent, HasKeyLength, IsFirstOfOtherLength, IsFirstTwice, key_at}
+use Rattle.crypto_text.specs.TextList.{AreDifferent}
+use Rattle.signing_core.specs.Keys.{HasKeyLength, IsFirstOfOtherLength, IsFirstTwice, key_at}
 
 cons_cases : (first : List ℕ) (rest : List (List ℕ)) (key : List ℕ) (k : ℕ) → k < length (first ∷ rest) → get_or (first ∷ rest) k key ≡ key → (first ≡ key) ⊎ Contains rest key
 cons_cases first rest key zero lt same = inl same

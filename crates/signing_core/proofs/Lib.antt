@@ -1,4 +1,4 @@
-pub mod ColonLemmas
+pub mod DecodingLemmas
 pub mod KeysLemmas
 pub mod SignatureLemmas
 pub mod SignedJsonLemmas

@@ -9,10 +9,10 @@ use Rattle.crypto_text.specs.Numeral.{IsNumeral, base62_digits, numeral_of, valu
 use Rattle.crypto_text.proofs.NumeralLemmas.{IsDigitTable-base62}
 use Rattle.crypto_text.proofs.NumeralWriting.{IsNumeral-numeral_of}
 use Rattle.crypto_text.specs.Rfc4648.{base64url, sixes_of, six_at, url_safe_letters}
-use Rattle.signing_core.specs.Cut.{IsCutAtLast}
+use Rattle.crypto_text.specs.Cut.{IsCutAtLast}
 use Rattle.signing_core.specs.Signature.{IsAllowed, IsSigned, IsTimed, IsTimestamped, separator, signature_of, signed_text, timed_value}
 use Rattle.signing_core.specs.SignedJson.{IsCompressed}
-use Rattle.signing_core.proofs.ColonLemmas.{Contains-joined, cut_once}
+use Rattle.crypto_text.proofs.CutLemmas.{Contains-joined, last_cut_once}
 
 -- ---- signatures and numerals have no colon
 
@@ -67,23 +67,23 @@ numeral_has_no_colon digits n numeral found = colon_is_no_digit (All-contains (C
 pub signed_text_tells_value : (text first second prefix salt other_prefix other_salt : List ℕ) (keys other_keys : List (List ℕ))
     → IsSigned text first prefix salt keys → IsSigned text second other_prefix other_salt other_keys → first ≡ second
 signed_text_tells_value text first second prefix salt other_prefix other_salt keys other_keys a b =
-    (cut_once _ _ _ _ (sym a.text_is ∙ b.text_is) (signature_has_no_colon _ _ _ _) (signature_has_no_colon _ _ _ _)).0
+    (last_cut_once separator _ _ _ _ (sym a.text_is ∙ b.text_is) (signature_has_no_colon _ _ _ _) (signature_has_no_colon _ _ _ _)).0
 
 -- a signed text has a colon
 pub signed_has_colon : (text value prefix salt : List ℕ) (keys : List (List ℕ)) → IsSigned text value prefix salt keys → Contains text separator
-signed_has_colon text value prefix salt keys signed = subst (λ l. Contains l separator) (sym signed.text_is) (Contains-joined value _)
+signed_has_colon text value prefix salt keys signed = subst (λ l. Contains l separator) (sym signed.text_is) (Contains-joined separator value _)
 
 -- what a signed text is cut into
-pub signed_is_cut : (text front back value prefix salt : List ℕ) (keys : List (List ℕ)) → IsCutAtLast text front back → IsSigned text value prefix salt keys
+pub signed_is_cut : (text front back value prefix salt : List ℕ) (keys : List (List ℕ)) → IsCutAtLast separator text front back → IsSigned text value prefix salt keys
     → (front ≡ value) × Any (λ key. back ≡ signature_of front prefix salt key) keys
 signed_is_cut text front back value prefix salt keys cut signed =
-    let parts = cut_once _ _ _ _ (sym cut.whole ∙ signed.text_is) cut.last (signature_has_no_colon _ _ _ _) in
+    let parts = last_cut_once separator _ _ _ _ (sym cut.whole ∙ signed.text_is) cut.last (signature_has_no_colon _ _ _ _) in
     let same : front ≡ value = parts.0 in
     let listed_again : get_or keys signed.listed.0 signed.key ≡ signed.key = signed.listed.2 in
     (same, (signed.listed.0, signed.key, signed.listed.1, listed_again, parts.1 ∙ ap (λ v. signature_of v prefix salt signed.key) (sym same)))
 
 -- a text that was cut before a signature is signed
-pub cut_is_signed : (text front back prefix salt : List ℕ) (keys : List (List ℕ)) → IsCutAtLast text front back
+pub cut_is_signed : (text front back prefix salt : List ℕ) (keys : List (List ℕ)) → IsCutAtLast separator text front back
     → Any (λ key. back ≡ signature_of front prefix salt key) keys → IsSigned text front prefix salt keys
 cut_is_signed text front back prefix salt keys cut fits =
     record { key = fits.1; listed = (fits.0, fits.2, fits.3); text_is = cut.whole ∙ ap (λ l. front ++ separator ∷ l) fits.4 }
@@ -92,17 +92,17 @@ cut_is_signed text front back prefix salt keys cut fits =
 
 -- what was signed with a time has a colon
 pub timed_has_colon : (rest value : List ℕ) (time : ℕ) → IsTimed rest value time → Contains rest separator
-timed_has_colon rest value time timed = subst (λ l. Contains l separator) (sym timed.rest_is) (Contains-joined value timed.digits)
+timed_has_colon rest value time timed = subst (λ l. Contains l separator) (sym timed.rest_is) (Contains-joined separator value timed.digits)
 
 -- behind its last colon stands the time
-pub timed_is_cut : (rest front back value : List ℕ) (time : ℕ) → IsCutAtLast rest front back → IsTimed rest value time → IsNumeral base62_digits back time × (time < 2 ^ 64)
+pub timed_is_cut : (rest front back value : List ℕ) (time : ℕ) → IsCutAtLast separator rest front back → IsTimed rest value time → IsNumeral base62_digits back time × (time < 2 ^ 64)
 timed_is_cut rest front back value time cut timed =
-    let parts = cut_once _ _ _ _ (sym cut.whole ∙ timed.rest_is) cut.last (numeral_has_no_colon _ _ timed.numeral) in
+    let parts = last_cut_once separator _ _ _ _ (sym cut.whole ∙ timed.rest_is) cut.last (numeral_has_no_colon _ _ timed.numeral) in
     (subst (λ digits. IsNumeral base62_digits digits time) (sym parts.1) timed.numeral, timed.fits)
 
 pub timed_tells_value : (rest first second : List ℕ) (first_time second_time : ℕ) → IsTimed rest first first_time → IsTimed rest second second_time → (first ≡ second) × (first_time ≡ second_time)
 timed_tells_value rest first second first_time second_time a b =
-    let parts = cut_once _ _ _ _ (sym a.rest_is ∙ b.rest_is) (numeral_has_no_colon _ _ a.numeral) (numeral_has_no_colon _ _ b.numeral) in
+    let parts = last_cut_once separator _ _ _ _ (sym a.rest_is ∙ b.rest_is) (numeral_has_no_colon _ _ a.numeral) (numeral_has_no_colon _ _ b.numeral) in
     (parts.0, sym a.numeral.value ∙ ap (value_of base62_digits) parts.1 ∙ b.numeral.value)
 
 pub timestamped_text_tells_value : (text first second prefix salt other_prefix other_salt : List ℕ) (first_time second_time : ℕ) (keys other_keys : List (List ℕ))

@@ -4,13 +4,16 @@ use Rattle.std.proofs.lemmas.Bool.{cases_lt}
 use Rattle.std.proofs.lemmas.List.{get_or_past}
 use Rattle.std.specs.List.{Contains}
 use Rattle.serde_json.specs.Data.{Data}
+use Rattle.ascii_json.specs.declared.reading.JsonFault.{JsonFault}
 use Rattle.ascii_json.specs.Profile.{IsProfile, Reads}
 use Rattle.ascii_json.specs.AsciiJson.{json_of}
 use Rattle.ascii_json.specs.Representable.{IsRepresentable}
 use Rattle.ascii_json.proofs.WrittenReadsBack.{json_printable, reads_back}
 use Rattle.crypto_text.specs.Rfc4648.{IsBytes, base64url}
 use Rattle.crypto_text.proofs.Rfc4648Lemmas.{base64url-injective}
-use Rattle.signing_core.specs.SignedJson.{IsDumped, SaysValue, dumped_text, payload_of}
+use Rattle.signing_core.specs.declared.signed_json.LoadFault.{LoadFault}
+use Rattle.signing_core.specs.LoadFaults.{IsLoadFaultOfJson}
+use Rattle.signing_core.specs.SignedJson.{IsDumped, IsPayloadOf, SaysValue, dumped_text, encoded_json}
 use Rattle.signing_core.proofs.SignatureLemmas.{base64url_is_no_mark, timestamped_text_tells_value, timestamped_while_listed}
 
 -- the bytes that were written as the payload are JSON text of the value that it says
@@ -34,8 +37,8 @@ IsBytes-json_of d representable i = elim (cases_lt i (length (json_of d))) [
 pub dumped_while_listed : (d : Data) (salt key : List ℕ) (time : ℕ) (keys : List (List ℕ)) → IsRepresentable d → IsProfile d → time < 2 ^ 64 → Contains keys key
     → IsDumped (dumped_text d salt key time) d time salt keys
 dumped_while_listed d salt key time keys representable profile fits listed = record {
-  payload = payload_of d;
-  timestamped = timestamped_while_listed (payload_of d) [] salt key time keys fits listed;
+  payload = encoded_json d;
+  timestamped = timestamped_while_listed (encoded_json d) [] salt key time keys fits listed;
   says = record {
     json = json_of d;
     payload_of_json = record { uncompressed = base64url_is_no_mark (json_of d); bytes = IsBytes-json_of d representable; encoded = refl };
@@ -50,3 +53,13 @@ dumped_text_tells_value text salt other_salt first second first_time second_time
     let first_says : SaysValue b.payload first = subst (λ p. SaysValue p first) same.0 a.says in
     let reads : Reads b.says.json first = json_says b.payload b.says.json first b.says.payload_of_json.encoded b.says.payload_of_json.bytes first_says in
     (reads_once b.says.json first second reads b.says.reads, same.1)
+
+-- a payload is that of one list of bytes
+pub payload_once : (payload json other : List ℕ) → payload ≡ base64url json → IsBytes json → IsPayloadOf payload other → json ≡ other
+payload_once payload json other encoded bytes is = base64url-injective json other bytes is.bytes (sym encoded ∙ is.encoded)
+
+-- where the bytes of a payload that says a value weren't read, it was for memory
+pub json_unread : (payload json : List ℕ) (d : Data) (fault : JsonFault) (loaded : LoadFault) → payload ≡ base64url json → IsBytes json → IsLoadFaultOfJson fault loaded
+    → ((¬ (fault ≡ JsonFault.Memory)) → (fault ≡ JsonFault.NotJson) → ¬ Reads json d) → SaysValue payload d → loaded ≡ LoadFault.Memory
+json_unread payload json d JsonFault.NotJson loaded encoded bytes comes none says = absurd (none (λ memory. absurd (cc)) refl (json_says payload json d encoded bytes says))
+json_unread payload json d JsonFault.Memory loaded encoded bytes comes none says = comes

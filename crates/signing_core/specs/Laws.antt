@@ -1,10 +1,12 @@
 -- What signing is good for.
-use Rattle.std.specs.Prelude.{◌≡◌, ℕ, ◌^◌, ◌<◌, List, Contains, Option}
+use Rattle.std.specs.Prelude.{◌≡◌, ◌↔◌, ℕ, ◌^◌, ◌<◌, List, [], Contains, Option, Some}
 use Rattle.serde_json.specs.Data.{Data}
 use Rattle.ascii_json.specs.Profile.{IsProfile}
 use Rattle.ascii_json.specs.Representable.{IsRepresentable}
+use Rattle.crypto_text.specs.Rfc4648.{IsBytes, base64url}
+use Rattle.signing_core.specs.Decoding.{bytes_of, signed_value}
 use Rattle.signing_core.specs.Signature.{IsAllowed, IsSigned, IsTimestamped, age_at, signed_text, timed_value}
-use Rattle.signing_core.specs.SignedCookie.{cookie_prefix, cookie_salt, cookie_text}
+use Rattle.signing_core.specs.SignedCookie.{cookie_prefix, cookie_text, salt_with_name}
 use Rattle.signing_core.specs.SignedJson.{IsDumped, dumped_text}
 use Rattle.signing_core.specs.TimedText.{IsCurrent}
 
@@ -41,4 +43,13 @@ DumpedWhileListed = (d : Data) (salt key : List ℕ) (time : ℕ) (keys : List (
 -- a cookie's value that was signed under a key is that value while the key is listed and its age allowed
 abbrev pub CookieWhileListed : Type 0
 CookieWhileListed = (name value salt key : List ℕ) (time now : ℕ) (max_age : Option ℕ) (keys : List (List ℕ)) → time < 2 ^ 64 → Contains keys key → IsAllowed max_age (age_at time now)
-    → IsCurrent (cookie_text name value salt key time) value cookie_prefix (cookie_salt name salt) keys now max_age
+    → IsCurrent (cookie_text name value salt key time) value cookie_prefix (salt_with_name name salt) keys now max_age
+
+-- what a text is taken apart into is the value and the moment that were signed together under one of the keys
+abbrev pub SignedValueIsTimestamped : Type 0
+SignedValueIsTimestamped = (text salt value : List ℕ) (time : ℕ) (keys : List (List ℕ))
+    → (signed_value text salt keys ≡ Some (value, time)) ↔ IsTimestamped text value time [] salt keys
+
+-- and the bytes of a value are those whose base64url it is
+abbrev pub BytesAreEncoded : Type 0
+BytesAreEncoded = (text bytes : List ℕ) → (bytes_of text ≡ Some bytes) ↔ (IsBytes bytes × (text ≡ base64url bytes))

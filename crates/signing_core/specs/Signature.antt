@@ -10,7 +10,7 @@ pub record Signing : Type 0 where
   pub prefix : List ℕ
   pub salt : List ℕ
 
--- the colon that stands before a signature, and before a time
+-- the colon before a signature, and before a time
 abbrev pub separator : ℕ
 separator = 58
 

@@ -1,5 +1,6 @@
 -- What reading a text that was signed with the time comes to.
-use Rattle.std.specs.Prelude.{ℕ, List, Contains, Option}
+use Rattle.std.specs.Prelude.{◌≡◌, ℕ, List, Contains, Option}
+use Rattle.signing_core.specs.declared.signer.SignFault.{SignFault}
 use Rattle.signing_core.specs.declared.signer.TimedFault.{TimedFault}
 use Rattle.signing_core.specs.declared.signer.TimedFault.TheVariants.{BadSignature, BadTime, Expired, NoSeparator}
 use Rattle.signing_core.specs.Signature.{HasBadSignature, HasBadTime, IsAllowed, IsExpired, IsTimestamped, age_at, separator}
@@ -9,6 +10,11 @@ pub record IsCurrent (text value prefix salt : List ℕ) (keys : List (List ℕ)
   pub time : ℕ
   pub timestamped : IsTimestamped text value time prefix salt keys
   pub allowed : IsAllowed max_age (age_at time now)
+
+-- a fault of the signature is one of the text with its time
+abbrev pub IsTimedFaultOf : SignFault → TimedFault → Type 0
+IsTimedFaultOf SignFault.NoSeparator fault = fault ≡ NoSeparator
+IsTimedFaultOf SignFault.BadSignature fault = fault ≡ BadSignature
 
 -- the text is refused for this reason
 abbrev pub HasTimedFault : List ℕ → List ℕ → List ℕ → List (List ℕ) → ℕ → Option ℕ → TimedFault → Type 0

@@ -1,44 +1,60 @@
-//! Key lists: the key that signs, and behind it the fallbacks whose signatures are still read.
+//! Key lists: the key that signs, then the fallbacks whose signatures are still read.
 
 ghost use Rattle.std.specs.Prelude.{◌≡◌, ◌+◌, ◌<◌, ◌≤◌, ◌↔◌, ℕ, [], ◌∷◌, All, Contains, IfOk, IsErrOf, IsTrue, MatchOption, length, vec_len};
-ghost use Rattle.signing_core.specs.Keys.{AreDifferent, HasKeyLength, IsFirstOfOtherLength, IsFirstTwice, IsKeys, key_at, retired, rotated};
+ghost use Rattle.crypto_text.specs.TextList.{AreDifferent};
+ghost use Rattle.signing_core.specs.Keys.{HasKeyLength, IsFirstOfOtherLength, IsFirstTwice, IsKeys, key_at, retired, rotated};
 
 use crypto_text::Bytes;
 use std::alloc::{AllocError, Global};
 use std::marker::Model;
+use thiserror::Error;
 
 const MOST_KEYS: usize = 16;
 
 const LONGEST_KEY: usize = 1024;
 
 /// Why keys are no key list.
-#[derive(Clone, Copy, Debug, PartialEq, Eq)]
+#[derive(Clone, Copy, Debug, Drop, PartialEq, Eq, Error)]
 pub enum KeysFault {
-    /// More than 16 keys.
+    #[error("more than 16 keys")]
     TooMany,
-    /// The first key that has not 1 to 1,024 bytes stands at this place, counted from 0.
+    /// The index, counted from 0, is that of the first such key.
+    #[error("key {at} has not 1 to 1,024 bytes")]
     Length { at: usize },
-    /// The first key that stood before stands at this place again.
+    /// The index, counted from 0, is that of the first key that an earlier one equals.
+    #[error("key {at} is in the list twice")]
     Twice { at: usize },
+    #[error("out of memory")]
     Memory,
 }
 
 /// Why a key can't become the first of a list.
-#[derive(Clone, Copy, Debug, PartialEq, Eq)]
+#[derive(Clone, Copy, Debug, Drop, PartialEq, Eq, Error)]
 pub enum RotateFault {
-    /// It has not 1 to 1,024 bytes.
+    #[error("the key has not 1 to 1,024 bytes")]
     Length,
-    /// It stands in the list.
+    #[error("the key is in the list")]
     Held,
-    /// The list has 16 keys.
+    #[error("the list has 16 keys")]
     TooMany,
+    #[error("out of memory")]
     Memory,
+}
+
+impl From<AllocError> for RotateFault {
+    ghost use Rattle.signing_core.specs.declared.keys.RotateFault.TheVariants.{Memory};
+
+    ghost from_gives = { λ _ fault. fault ≡ Memory };
+
+    fn from(_fault: AllocError) -> RotateFault {
+        RotateFault::Memory
+    }
 }
 
 /// A list of 1 to 16 different keys of 1 to 1,024 bytes. The first key signs, and the signature of
 /// any of them is read: Django's `SECRET_KEY` and `SECRET_KEY_FALLBACKS`. It is seen as the list of
-/// its keys, the first key first.
-#[derive(Debug, Drop)]
+/// its keys, the first key first. It has no `Debug`, so that no key is printed.
+#[derive(Drop)]
 pub struct Keys {
     keys: Vec<Bytes>,
 }
@@ -99,7 +115,7 @@ impl Keys {
         self.keys[0].items()
     }
 
-    /// The key at a place; the first key stands at 0.
+    /// The key at an index; that of the first key is 0.
     pub fn key(&self, at: usize) -> &[u8]
         requires { at < length self.now }
         ensures value { result.now ≡ key_at self.now at }
@@ -136,7 +152,7 @@ impl Keys {
         if self.keys.len() >= MOST_KEYS {
             return Err(RotateFault::TooMany);
         }
-        let keys = list_of(alloc, key, self.keys.as_slice()).map_err(|_| RotateFault::Memory)?;
+        let keys = list_of(alloc, key, self.keys.as_slice())?;
         Ok(Keys { keys })
     }
 
@@ -187,14 +203,14 @@ fn first_twice(first: &[u8], fallbacks: &[Bytes]) -> Option<usize>
     ensures { MatchOption result (AreDifferent (first.now ∷ fallbacks.now)) (IsFirstTwice (first.now ∷ fallbacks.now)) }
 {
     for (i, key) in fallbacks.iter().enumerate() {
-        if stood_before(first, &fallbacks[..i], key.items()) {
+        if is_earlier(first, &fallbacks[..i], key.items()) {
             return Some(i + 1);
         }
     }
     None
 }
 
-fn stood_before(first: &[u8], before: &[Bytes], key: &[u8]) -> bool
+fn is_earlier(first: &[u8], before: &[Bytes], key: &[u8]) -> bool
     ensures { IsTrue result ↔ Contains (first.now ∷ before.now) key.now }
 {
     if first == key {
@@ -203,13 +219,13 @@ fn stood_before(first: &[u8], before: &[Bytes], key: &[u8]) -> bool
     is_among(before, key)
 }
 
-fn list_of(alloc: Global, first: &[u8], behind: &[Bytes]) -> Result<Vec<Bytes>, AllocError>
-    requires { length behind.now ≤ 16 }
-    ensures { IfOk result (λ keys. keys.items ≡ first.now ∷ behind.now) }
+fn list_of(alloc: Global, first: &[u8], others: &[Bytes]) -> Result<Vec<Bytes>, AllocError>
+    requires { length others.now ≤ 16 }
+    ensures { IfOk result (λ keys. keys.items ≡ first.now ∷ others.now) }
 {
-    let mut keys = Vec::with_capacity(alloc, behind.len() + 1)?;
+    let mut keys = Vec::with_capacity(alloc, others.len() + 1)?;
     keys.push(Bytes::of(alloc, first)?)?;
-    for key in behind {
+    for key in others {
         keys.push(key.copy(alloc)?)?;
     }
     Ok(keys)

@@ -1,7 +1,7 @@
 //! Laws about the definitions of this crate. A law is a function that does nothing: its clause is
 //! the law, so the check of the crate proves it.
 
-ghost use Rattle.signing_core.specs.Laws.{CookieWhileListed, DumpedTextTellsValue, DumpedWhileListed, SignedTextTellsValue, SignedWhileListed, TimestampedTextTellsValue, TimestampedWhileListed};
+ghost use Rattle.signing_core.specs.Laws.{BytesAreEncoded, CookieWhileListed, DumpedTextTellsValue, DumpedWhileListed, SignedTextTellsValue, SignedValueIsTimestamped, SignedWhileListed, TimestampedTextTellsValue, TimestampedWhileListed};
 
 /// A signature has no colon, so a signed text is the text of one value.
 pub fn signed_text_tells_value()
@@ -38,4 +38,14 @@ pub fn dumped_while_listed()
 /// the age allowed.
 pub fn cookie_while_listed()
     ensures { CookieWhileListed }
+{}
+
+/// `Decoding.signed_value` takes a text apart as `unsign_timed` does under an empty prefix.
+pub fn signed_value_is_timestamped()
+    ensures { SignedValueIsTimestamped }
+{}
+
+/// `Decoding.bytes_of` reads base64url as `loads` does.
+pub fn bytes_are_encoded()
+    ensures { BytesAreEncoded }
 {}

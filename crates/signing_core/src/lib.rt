@@ -1,8 +1,8 @@
 //! Signed texts, as Django 4.2's `django.core.signing` makes and reads them.
 //!
-//! A signature shows that a text was written by someone who has a key; it hides nothing. Make a
-//! `Keys` first: the key that signs, and behind it the fallbacks whose signatures are still read.
-//! To change keys, take `rotated` and, once no text of the old keys is wanted any more, `retired`.
+//! A text is read only where its signature is that of its value under a listed key. Nothing is hidden.
+//! Make a `Keys` first: the key that signs, then the fallbacks whose signatures are still read. To
+//! change keys, take `rotated` and, once no text of the old keys is wanted any more, `retired`.
 //!
 //! - `Signer` signs a text for one use, which its salt names. `sign` and `unsign` know no time;
 //!   `sign_timed` and `unsign_timed` sign a moment with it, so that old texts can be refused;

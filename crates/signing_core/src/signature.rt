@@ -10,7 +10,7 @@ use std::alloc::{AllocError, Global};
 
 /// The signature under a key, as a text.
 #[tactic(auto, unfolding(crate::specs::Signature::signature_of))]
-pub fn signature(
+pub(crate) fn signature(
     alloc: Global,
     prefix: &str,
     salt: &str,
@@ -23,7 +23,13 @@ pub fn signature(
 }
 
 /// Whether this is the signature of the value under one of the keys.
-pub fn is_signature(prefix: &str, salt: &str, keys: &Keys, value: &str, signature: &str) -> bool
+pub(crate) fn is_signature(
+    prefix: &str,
+    salt: &str,
+    keys: &Keys,
+    value: &str,
+    signature: &str,
+) -> bool
     ensures { IsTrue result ↔ Any (λ key. signature.now ≡ signature_of value.now prefix.now salt.now key) keys.now }
 {
     for at in 0..keys.len() {

@@ -1,15 +1,15 @@
 //! Values as signed JSON: Django's `signing.dumps` and `signing.loads`, without compression.
 
-ghost use Rattle.std.specs.Prelude.{◌≡◌, ◌↔◌, ℕ, List, [], ◌⊎◌, IfOk, IsErrOf, IsOkAnd};
+ghost use Rattle.std.specs.Prelude.{◌≡◌, ◌↔◌, ℕ, [], ◌⊎◌, IfOk, IsErrOf, IsOkAnd};
 ghost use Rattle.serde_json.specs.Data.{Data};
 ghost use Rattle.serde_json.specs.View.{view};
-ghost use Rattle.ascii_json.specs.Profile.{IsProfile, Reads};
+ghost use Rattle.ascii_json.specs.Profile.{IsProfile};
 ghost use Rattle.ascii_json.specs.Representable.{IsRepresentable};
 ghost use Rattle.crypto_text.specs.Rfc4648.{IsBase64url};
 ghost use Rattle.signing_core.specs.Keys.{key_at};
 ghost use Rattle.signing_core.specs.Signature.{IsAllowed, age_at};
-ghost use Rattle.signing_core.specs.SignedJson.{IsCompressed, IsDumped, IsPayloadOf, SaysValue, dumped_text};
-ghost use Rattle.signing_core.specs.TimedText.{HasTimedFault, IsCurrent};
+ghost use Rattle.signing_core.specs.SignedJson.{IsCompressed, IsDumped, SaysNoValue, SaysValue, SignsCompressed, SignsNoBase64, SignsNoJson, dumped_text};
+ghost use Rattle.signing_core.specs.TimedText.{HasTimedFault};
 
 use crate::keys::Keys;
 use crate::signer::{Signer, TimedFault};
@@ -18,19 +18,58 @@ use ascii_json::{JsonFault, json_ascii, json_read};
 use crypto_text::{B64Fault, Text, b64url_decode, b64url_encode};
 use serde_json::Value;
 use std::alloc::{AllocError, Global};
+use thiserror::Error;
 
 /// Why a text is not read as a signed value.
-#[derive(Clone, Copy, Debug, PartialEq, Eq)]
+#[derive(Clone, Copy, Debug, Drop, PartialEq, Eq, Error)]
 pub enum LoadFault {
-    /// It is no text that was signed with the time, or it is too old.
+    #[error("{0}")]
     Timed(TimedFault),
     /// What was signed begins with a dot: compressed JSON, which this crate doesn't read.
+    #[error("compressed JSON")]
     Compressed,
-    /// What was signed is no base64url without padding.
+    #[error("what was signed is no base64url")]
     NotBase64,
-    /// The bytes that were signed are no JSON text of a profile value.
+    #[error("what was signed is no JSON text without floats and nested at most 100 deep")]
     NotJson,
+    #[error("out of memory")]
     Memory,
+}
+
+impl From<TimedFault> for LoadFault {
+    ghost use Rattle.signing_core.specs.declared.signed_json.LoadFault.TheVariants.{Timed};
+
+    ghost from_gives = { λ timed fault. fault ≡ Timed timed };
+
+    fn from(fault: TimedFault) -> LoadFault {
+        LoadFault::Timed(fault)
+    }
+}
+
+impl From<B64Fault> for LoadFault {
+    ghost use Rattle.signing_core.specs.LoadFaults.{IsLoadFaultOfBase64};
+
+    ghost from_gives = { IsLoadFaultOfBase64 };
+
+    fn from(fault: B64Fault) -> LoadFault {
+        match fault {
+            B64Fault::NotBase64 => LoadFault::NotBase64,
+            B64Fault::Memory => LoadFault::Memory,
+        }
+    }
+}
+
+impl From<JsonFault> for LoadFault {
+    ghost use Rattle.signing_core.specs.LoadFaults.{IsLoadFaultOfJson};
+
+    ghost from_gives = { IsLoadFaultOfJson };
+
+    fn from(fault: JsonFault) -> LoadFault {
+        match fault {
+            JsonFault::NotJson => LoadFault::NotJson,
+            JsonFault::Memory => LoadFault::Memory,
+        }
+    }
 }
 
 /// Signs a profile value, and the time in seconds, under the first key. Django's default salt is
@@ -68,19 +107,14 @@ pub fn loads(
         → IsOkAnd result (λ value. view value ≡ d) ⊎ IsErrOf result LoadFault.Memory }
     ensures timed { (fault : TimedFault) → IsErrOf result (LoadFault.Timed fault)
         ↔ HasTimedFault text.now [] salt.now keys.now now max_age fault }
-    ensures compressed { IsErrOf result LoadFault.Compressed
-        ↔ ((payload : List ℕ) × IsCurrent text.now payload [] salt.now keys.now now max_age × IsCompressed payload) }
-    ensures not_base64 { IsErrOf result LoadFault.NotBase64 → (payload : List ℕ)
-        × IsCurrent text.now payload [] salt.now keys.now now max_age
-        × ¬ IsCompressed payload × ¬ IsBase64url payload }
-    ensures not_json { IsErrOf result LoadFault.NotJson → (payload : List ℕ) × (json : List ℕ)
-        × IsCurrent text.now payload [] salt.now keys.now now max_age
-        × IsPayloadOf payload json × ((d : Data) → ¬ Reads json d) }
+    ensures compressed { IsErrOf result LoadFault.Compressed ↔ SignsCompressed text.now salt.now keys.now now max_age }
+    ensures not_base64 { (¬ IsErrOf result LoadFault.Memory)
+        → (IsErrOf result LoadFault.NotBase64 ↔ SignsNoBase64 text.now salt.now keys.now now max_age) }
+    ensures not_json { (¬ IsErrOf result LoadFault.Memory)
+        → (IsErrOf result LoadFault.NotJson ↔ SignsNoJson text.now salt.now keys.now now max_age) }
 {
-    match current_value(keys, "", salt, text, now, max_age) {
-        Ok(payload) => payload_value(alloc, payload),
-        Err(fault) => Err(LoadFault::Timed(fault)),
-    }
+    let payload = current_value(keys, "", salt, text, now, max_age)?;
+    payload_value(alloc, payload)
 }
 
 fn payload_value(alloc: Global, payload: &str) -> Result<Value, LoadFault>
@@ -89,21 +123,14 @@ fn payload_value(alloc: Global, payload: &str) -> Result<Value, LoadFault>
     ensures value { (d : Data) → SaysValue payload.now d → IsOkAnd result (λ value. view value ≡ d) ⊎ IsErrOf result LoadFault.Memory }
     ensures timed { (fault : TimedFault) → ¬ IsErrOf result (LoadFault.Timed fault) }
     ensures compressed { IsErrOf result LoadFault.Compressed ↔ IsCompressed payload.now }
-    ensures not_base64 { IsErrOf result LoadFault.NotBase64 → (¬ IsCompressed payload.now) × ¬ IsBase64url payload.now }
-    ensures not_json { IsErrOf result LoadFault.NotJson → (json : List ℕ)
-        × IsPayloadOf payload.now json × ((d : Data) → ¬ Reads json d) }
+    ensures not_base64 { (¬ IsErrOf result LoadFault.Memory)
+        → (IsErrOf result LoadFault.NotBase64 ↔ ((¬ IsCompressed payload.now) × ¬ IsBase64url payload.now)) }
+    ensures not_json { (¬ IsErrOf result LoadFault.Memory) → (IsErrOf result LoadFault.NotJson ↔ SaysNoValue payload.now) }
 {
     if payload.starts_with('.') {
         return Err(LoadFault::Compressed);
     }
-    let json = match b64url_decode(alloc, payload) {
-        Ok(json) => json,
-        Err(B64Fault::NotBase64) => return Err(LoadFault::NotBase64),
-        Err(B64Fault::Memory) => return Err(LoadFault::Memory),
-    };
-    match json_read(alloc, json.items()) {
-        Ok(value) => Ok(value),
-        Err(JsonFault::NotJson) => Err(LoadFault::NotJson),
-        Err(JsonFault::Memory) => Err(LoadFault::Memory),
-    }
+    let json = b64url_decode(alloc, payload)?;
+    let value = json_read(alloc, json.items())?;
+    Ok(value)
 }

@@ -4,38 +4,55 @@ ghost use Rattle.std.specs.Prelude.{◌≡◌, ◌<◌, ◌↔◌, ℕ, List, Co
 ghost use Rattle.signing_core.specs.Keys.{key_at};
 ghost use Rattle.signing_core.specs.Signature.{HasBadSignature, HasBadTime, IsAllowed, IsExpired, IsSigned, IsTimestamped, age_at, separator, signed_text, timed_value};
 
-use crate::colon::{cut_at_last_colon, joined, timed_parts};
+use crate::colon::{joined, timed_parts};
 use crate::keys::Keys;
 use crate::signature::{is_signature, signature};
-use crypto_text::{Text, b62_encode};
+use crypto_text::{Text, b62_encode, cut_at_last};
 use std::alloc::{AllocError, Global};
 use std::marker::Model;
+use thiserror::Error;
 
 /// Why a text is not read as a signed one.
-#[derive(Clone, Copy, Debug, PartialEq, Eq)]
+#[derive(Clone, Copy, Debug, Drop, PartialEq, Eq, Error)]
 pub enum SignFault {
-    /// It has no colon.
+    #[error("no colon")]
     NoSeparator,
-    /// The part behind its last colon is no signature of the part before it under a listed key.
+    /// The part after its last colon is no signature of the part before it under a listed key.
+    #[error("no signature under a listed key")]
     BadSignature,
 }
 
 /// Why a text is not read as one that was signed with the time.
-#[derive(Clone, Copy, Debug, PartialEq, Eq)]
+#[derive(Clone, Copy, Debug, Drop, PartialEq, Eq, Error)]
 pub enum TimedFault {
-    /// It has no colon.
+    #[error("no colon")]
     NoSeparator,
-    /// The part behind its last colon is no signature of the part before it under a listed key.
+    /// The part after its last colon is no signature of the part before it under a listed key.
+    #[error("no signature under a listed key")]
     BadSignature,
-    /// What was signed has no colon, or no base 62 number below 2^64 behind its last one.
+    /// What was signed has no colon, or no base 62 number below 2^64 after its last one.
+    #[error("no time")]
     BadTime,
-    /// It is older than is allowed. The age is in seconds.
+    #[error("too old: {age} seconds")]
     Expired { age: u64 },
 }
 
+impl From<SignFault> for TimedFault {
+    ghost use Rattle.signing_core.specs.TimedText.{IsTimedFaultOf};
+
+    ghost from_gives = { IsTimedFaultOf };
+
+    fn from(fault: SignFault) -> TimedFault {
+        match fault {
+            SignFault::NoSeparator => TimedFault::NoSeparator,
+            SignFault::BadSignature => TimedFault::BadSignature,
+        }
+    }
+}
+
 /// Signs under the first key of a list, and reads what any key of the list signed: Django's `Signer`
-/// and `TimestampSigner` with the separator `:` and SHA-256. The salt sets one use apart from the
-/// others; the prefix stands before each key, and only signed cookies have one.
+/// and `TimestampSigner` with the separator `:` and SHA-256. The salt names the use; the prefix comes
+/// before each key, and only signed cookies have one.
 #[derive(Drop)]
 pub struct Signer<'a> {
     keys: &'a Keys,
@@ -77,7 +94,7 @@ impl<'a> Signer<'a> {
         ensures bad_signature { IsErrOf result SignFault.BadSignature
             ↔ HasBadSignature text.now self.now.prefix self.now.salt self.now.keys }
     {
-        let Some((value, signature)) = cut_at_last_colon(text) else {
+        let Some((value, signature)) = cut_at_last(text, ':') else {
             return Err(SignFault::NoSeparator);
         };
         if is_signature(self.prefix, self.salt, self.keys, value, signature) {
@@ -115,11 +132,7 @@ impl<'a> Signer<'a> {
         ensures expired { (age : ℕ) → IsErrOf result (TimedFault.Expired age)
             ↔ IsExpired text.now self.now.prefix self.now.salt self.now.keys now max_age age }
     {
-        let rest = match self.unsign(text) {
-            Ok(rest) => rest,
-            Err(SignFault::NoSeparator) => return Err(TimedFault::NoSeparator),
-            Err(SignFault::BadSignature) => return Err(TimedFault::BadSignature),
-        };
+        let rest = self.unsign(text)?;
         let Some((value, time)) = timed_parts(rest) else {
             return Err(TimedFault::BadTime);
         };

@@ -80,13 +80,24 @@ fn a_timed_text_expires_beyond_its_age(rt: HostRuntime) -> Result<(), Fail> {
 fn values_are_dumped_as_django_dumps_them(rt: HostRuntime) -> Result<(), Fail> {
     let alloc = rt.alloc();
     let keys = key_list(alloc, "k1", "k0")?;
-    let value = json_read(alloc, "[1,-7,null,true,\"\u{1f600}\"]".as_bytes())?;
-    let text = dumps(alloc, &value, SALT, &keys, 0)?;
-    assert_eq!(rt;
-        text.as_str(),
-        "WzEsLTcsbnVsbCx0cnVlLCJcdWQ4M2RcdWRlMDAiXQ:0:_c8ooxIbHcS8SdV2uAKVNHOjBgWV40GjbRXQZ9HTX_M"
-    );
-    assert!(rt; loads(alloc, text.as_str(), SALT, &keys, NOW, None)? == value);
+    for (json, now, dumped) in [
+        (
+            "[1,-7,null,true,\"\u{1f600}\"]",
+            0,
+            "WzEsLTcsbnVsbCx0cnVlLCJcdWQ4M2RcdWRlMDAiXQ:0:_c8ooxIbHcS8SdV2uAKVNHOjBgWV40GjbRXQZ9HTX_M",
+        ),
+        // The base64url of {"a":1,"b":"\u00e9"}.
+        (
+            "{\"b\":\"é\",\"a\":1}",
+            NOW,
+            "eyJhIjoxLCJiIjoiXHUwMGU5In0:1r31eq:7LWksCanI70jjq81xKxxzjQ7luS43CNbrSZFL6lYJRg",
+        ),
+    ] {
+        let value = json_read(alloc, json.as_bytes())?;
+        let text = dumps(alloc, &value, SALT, &keys, now)?;
+        assert_eq!(rt; text.as_str(), dumped);
+        assert!(rt; loads(alloc, text.as_str(), SALT, &keys, NOW, None)? == value);
+    }
     Ok(())
 }
 
@@ -168,8 +179,14 @@ fn key_lists_have_their_bounds(rt: HostRuntime) -> Result<(), Fail> {
     assert!(rt; sixteen.rotated(alloc, b"new").err() == Some(RotateFault::TooMany));
     assert!(rt; sixteen.rotated(alloc, b"0").err() == Some(RotateFault::Held));
     assert!(rt; sixteen.rotated(alloc, b"").err() == Some(RotateFault::Length));
-    assert_eq!(rt; sixteen.copy(alloc)?.len(), 16);
-    assert_eq!(rt; sixteen.retired(alloc)?.len(), 1);
+    let copy = sixteen.copy(alloc)?;
+    for at in 0..copy.len() {
+        let expected = if at == 0 { b'0' } else { at as u8 };
+        assert_eq!(rt; copy.key(at), [expected].as_slice());
+    }
+    let retired = sixteen.retired(alloc)?;
+    assert_eq!(rt; retired.len(), 1);
+    assert_eq!(rt; retired.first(), b"0".as_slice());
     let seventeen = Keys::new(alloc, Bytes::of(alloc, b"0")?, short_keys(alloc, 1, 17)?);
     assert!(rt; seventeen.err() == Some(KeysFault::TooMany));
     let longest = [7; 1024];

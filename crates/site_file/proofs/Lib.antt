@@ -1,3 +1,3 @@
-pub mod DifferentLemmas
+pub mod IdLemmas
 pub mod OpeningLemmas
 pub mod SiteFileLemmas

@@ -10,9 +10,11 @@ use Rattle.session_codec.specs.SessionText.{text_of}
 use Rattle.session_codec.specs.declared.session_text.SessionKind.TheVariants.{Stored}
 use Rattle.ledger_rows.specs.Admission.{auth_hash}
 use Rattle.ledger_rows.specs.Backends.{path_of}
-use Rattle.ledger_rows.specs.Opening.{AreDifferent, IsLoginText, IsOpening, IsOpeningSession, keys_of_sessions}
-use Rattle.ledger_rows.specs.State.{State, opening_state, user_of}
+use Rattle.crypto_text.specs.TextList.{AreDifferent}
+use Rattle.ledger_rows.specs.Opening.{IsLoginText, IsOpening, IsOpeningSession, keys_of_sessions}
+use Rattle.ledger_rows.specs.Tables.{user_of}
 use Rattle.ledger_rows.specs.declared.rows.Backend.TheVariants.{Model}
+use Rattle.ledger_rows.specs.declared.rows.Opening.{Opening}
 use Rattle.ledger_rows.specs.declared.rows.UserRow.{UserRow}
 use Rattle.site_file.specs.OpeningForm.{AreEntries, IsSessionEntry, keys_of_entries, opening_from, password_of, session_row}
 use Rattle.site_file.specs.declared.entries.Entries.{Entries}
@@ -37,44 +39,46 @@ first_key-held : (keys : List (List ℕ)) → IsKeys keys → Contains keys (key
 first_key-held keys form = (0, form.some, get_or_default keys 0 (key_at keys 0) [] form.some)
 
 -- a session's text is that of the login of the user who is found
-login_text-found : (state : State) (entry : SessionEntry) (found : Option UserRow) → IsKeys state.keys → IsSessionEntry state.users entry → IsSome found
-    → user_of state.users entry.user ≡ found
-    → IsLoginText state (text_of Stored (auth_members entry.user (path_of Model) (auth_hash (password_of found) (key_at state.keys 0))) state.keys entry.began)
-login_text-found state entry None keys form some is = absurd (cc some)
-login_text-found state entry (Some user) keys form some is =
-    let listed = user_of-Some state.users entry.user user is in record {
+login_text-found : (opening : Opening) (entry : SessionEntry) (found : Option UserRow) → IsKeys opening.keys → IsSessionEntry opening.users entry → IsSome found
+    → user_of opening.users entry.user ≡ found
+    → IsLoginText opening (text_of Stored (auth_members entry.user (path_of Model) (auth_hash (password_of found) (key_at opening.keys 0))) opening.keys entry.began)
+login_text-found opening entry None keys form some is = absurd (cc some)
+login_text-found opening entry (Some user) keys form some is =
+    let listed = user_of-Some opening.users entry.user user is in record {
       user = user;
       backend = Model;
-      key = key_at state.keys 0;
+      key = key_at opening.keys 0;
       moment = entry.began;
       listed = listed.0;
-      held = first_key-held state.keys keys;
+      held = first_key-held opening.keys keys;
       began = form.began;
-      whole = ap (λ id. text_of Stored (auth_members id (path_of Model) (auth_hash user.password (key_at state.keys 0))) state.keys entry.began) (sym listed.1);
+      whole = ap (λ id. text_of Stored (auth_members id (path_of Model) (auth_hash user.password (key_at opening.keys 0))) opening.keys entry.began) (sym listed.1);
     }
 
-session_row-form : (state : State) (entry : SessionEntry) → IsKeys state.keys → IsSessionEntry state.users entry → IsOpeningSession state (session_row state.keys state.users entry)
-session_row-form state entry keys form = record {
+session_row-form : (opening : Opening) (entry : SessionEntry) → IsKeys opening.keys → IsSessionEntry opening.users entry → IsOpeningSession opening (session_row opening.keys opening.users entry)
+unfolding session_row
+session_row-form opening entry keys form = record {
   key = form.key;
   expire = form.expire;
-  text = login_text-found state entry (user_of state.users entry.user) keys form form.user refl;
+  text = login_text-found opening entry (user_of opening.users entry.user) keys form form.user refl;
 }
 
-session_rows-form : (state : State) (entries : List SessionEntry) → IsKeys state.keys → All (IsSessionEntry state.users) entries
-    → All (IsOpeningSession state) (map (session_row state.keys state.users) entries)
-session_rows-form state entries keys form = All-map (IsOpeningSession state) (session_row state.keys state.users) entries (λ k d lt. session_row-form state _ keys (form k d lt))
+session_rows-form : (opening : Opening) (entries : List SessionEntry) → IsKeys opening.keys → All (IsSessionEntry opening.users) entries
+    → All (IsOpeningSession opening) (map (session_row opening.keys opening.users) entries)
+session_rows-form opening entries keys form = All-map (IsOpeningSession opening) (session_row opening.keys opening.users) entries (λ k d lt. session_row-form opening _ keys (form k d lt))
 
 session_rows-keys : (keys : List (List ℕ)) (users : List UserRow) (entries : List SessionEntry) → keys_of_sessions (map (session_row keys users) entries) ≡ keys_of_entries entries
+unfolding session_row
 session_rows-keys keys users [] = refl
 session_rows-keys keys users (entry ∷ entries) = ap (λ rest. entry.key ∷ rest) (session_rows-keys keys users entries)
 
-pub opening_from-form : (keys : List (List ℕ)) (entries : Entries) → IsKeys keys → AreEntries entries → IsOpening (opening_state (opening_from keys entries))
+pub opening_from-form : (keys : List (List ℕ)) (entries : Entries) → IsKeys keys → AreEntries entries → IsOpening (opening_from keys entries)
+unfolding opening_from
 opening_from-form keys entries is_keys form = record {
   keys = is_keys;
   users = form.users;
   groups = form.groups;
   perms = form.perms;
   session_keys = subst AreDifferent (sym (session_rows-keys keys entries.users entries.sessions)) form.sessions.keys;
-  sessions = session_rows-form (opening_state (opening_from keys entries)) entries.sessions is_keys form.sessions.rows;
-  boot = refl;
+  sessions = session_rows-form (opening_from keys entries) entries.sessions is_keys form.sessions.rows;
 }

@@ -41,6 +41,7 @@ one_opening : (keys : List (List ℕ)) (value : Option Data) (x y : Opening) →
 one_opening keys value x y p q = let entries : p.entries ≡ q.entries = cc (p.read, q.read) in cc (entries, p.rows, q.rows)
 
 said_by_fields-one : (d : Data) (a b : Site) → IsSaidByFields d a → IsSaidByFields d b → a ≡ b
+unfolding IsSaidByFields
 said_by_fields-one d =
     let named : List ℕ → Option Data = λ name. get name d in
     Judges-one _ (AreKeysOf (named (codes "keys"))) _ (one_keys (named (codes "keys"))) (λ keys.
@@ -66,6 +67,7 @@ same_value : (bytes : List ℕ) (d e : Data) → IsJsonOf bytes d → IsJsonOf b
 same_value bytes d e p q = cc (p.says, q.says)
 
 pub file_says_one_site : (bytes : List ℕ) (a b : Site) → IsSiteOf bytes a → IsSiteOf bytes b → a ≡ b
+unfolding IsSiteOf
 file_says_one_site bytes a b (inl p) (inl q) = said_by-one p.0 a b p.3 (subst (λ d. IsSaidBy d b) (same_value bytes q.0 p.0 q.2 p.2) q.3)
 file_says_one_site bytes a b (inl p) (inr q) = absurd (not_refused bytes p.0 p.1 p.2 q.1)
 file_says_one_site bytes a b (inr p) (inl q) = absurd (not_refused bytes q.0 q.1 q.2 p.1)

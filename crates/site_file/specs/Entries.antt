@@ -26,7 +26,7 @@ abbrev pub opening_names : List (List ℕ)
 opening_names = codes "users" ∷ codes "groups" ∷ codes "perms" ∷ codes "sessions" ∷ []
 
 -- a user: each of the names, and no other; nobody has logged in yet
-abbrev pub user_parts : Data → Option UserRow
+unfoldable pub user_parts : Data → Option UserRow
 user_parts d = do
   id ← field number_in (codes "id") d
   name ← field as_str (codes "name") d
@@ -41,7 +41,7 @@ user_parts d = do
 unfoldable pub user_in : Data → Option UserRow
 user_in d = if has_only user_names (as_object d) then user_parts d else None
 
-abbrev pub group_parts : Data → Option GroupRow
+unfoldable pub group_parts : Data → Option GroupRow
 group_parts d = do
   id ← field number_in (codes "id") d
   name ← field as_str (codes "name") d
@@ -51,7 +51,7 @@ group_parts d = do
 unfoldable pub group_in : Data → Option GroupRow
 group_in d = if has_only group_names (as_object d) then group_parts d else None
 
-abbrev pub perm_parts : Data → Option PermRow
+unfoldable pub perm_parts : Data → Option PermRow
 perm_parts d = do
   id ← field number_in (codes "id") d
   app ← field as_str (codes "app") d
@@ -61,7 +61,7 @@ perm_parts d = do
 unfoldable pub perm_in : Data → Option PermRow
 perm_in d = if has_only perm_names (as_object d) then perm_parts d else None
 
-abbrev pub session_parts : Data → Option SessionEntry
+unfoldable pub session_parts : Data → Option SessionEntry
 session_parts d = do
   key ← field as_str (codes "key") d
   user ← field number_in (codes "user") d
@@ -75,7 +75,7 @@ unfoldable pub session_in : Data → Option SessionEntry
 session_in d = if has_only session_names (as_object d) then session_parts d else None
 
 -- the four lists, each empty where its name is absent
-abbrev pub entries_parts : Data → Option Entries
+unfoldable pub entries_parts : Data → Option Entries
 entries_parts d = do
   users ← list_or_empty user_in (get (codes "users") d)
   groups ← list_or_empty group_in (get (codes "groups") d)

@@ -27,18 +27,18 @@ items_in read (item d ds) = do
   xs ← items_in read ds
   Some (x ∷ xs)
 
-abbrev pub list_in : {A : Type 0} → (Data → Option A) → Data → Option (List A)
+unfoldable pub list_in : {A : Type 0} → (Data → Option A) → Data → Option (List A)
 list_in read d = option_and_then (items_in read) (as_array d)
 
 -- a natural number below 2^64, written without point and exponent
-abbrev pub number_in : Data → Option ℕ
+unfoldable pub number_in : Data → Option ℕ
 number_in d = option_and_then as_u64 (as_number d)
 
 -- what stands under a name
-abbrev pub field : {A : Type 0} → (Data → Option A) → List ℕ → Data → Option A
+unfoldable pub field : {A : Type 0} → (Data → Option A) → List ℕ → Data → Option A
 field read name d = option_and_then read (get name d)
 
 -- a list under a name, empty where the name is absent
-abbrev pub list_or_empty : {A : Type 0} → (Data → Option A) → Option Data → Option (List A)
+unfoldable pub list_or_empty : {A : Type 0} → (Data → Option A) → Option Data → Option (List A)
 list_or_empty read None = Some []
 list_or_empty read (Some d) = list_in read d

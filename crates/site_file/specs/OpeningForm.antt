@@ -9,9 +9,10 @@ use Rattle.session_codec.specs.declared.session_text.SessionKind.TheVariants.{St
 use Rattle.ledger_rows.specs.Admission.{auth_hash}
 use Rattle.ledger_rows.specs.Backends.{path_of}
 use Rattle.ledger_rows.specs.Form.{IsSessionKey}
-use Rattle.ledger_rows.specs.Opening.{AreDifferent, AreOpeningGroups, AreOpeningPerms, AreOpeningUsers, ids_of_groups, ids_of_perms}
-use Rattle.ledger_rows.specs.State.{user_of}
-use Rattle.ledger_rows.specs.Step.{IsMoment}
+use Rattle.crypto_text.specs.TextList.{AreDifferent}
+use Rattle.ledger_rows.specs.Opening.{AreOpeningGroups, AreOpeningPerms, AreOpeningUsers, AreRowIds, ids_of_groups, ids_of_perms, ids_of_users}
+use Rattle.ledger_rows.specs.Tables.{user_of}
+use Rattle.crypto_text.specs.Moment.{IsMoment}
 use Rattle.ledger_rows.specs.declared.rows.Backend.TheVariants.{Model}
 use Rattle.ledger_rows.specs.declared.rows.Opening.{Opening}
 use Rattle.ledger_rows.specs.declared.rows.SessionRow.{SessionRow}
@@ -36,6 +37,12 @@ pub record AreSessionEntries (users : List UserRow) (sessions : List SessionEntr
   pub keys : AreDifferent (keys_of_entries sessions)
   pub rows : All (IsSessionEntry users) sessions
 
+-- the ids of each table are those of rows
+pub record HaveRowIds (entries : Entries) : Type 0 where
+  pub users : AreRowIds (ids_of_users entries.users)
+  pub groups : AreRowIds (ids_of_groups entries.groups)
+  pub perms : AreRowIds (ids_of_perms entries.perms)
+
 -- all rows are well formed
 pub record AreEntries (entries : Entries) : Type 0 where
   pub users : AreOpeningUsers (ids_of_groups entries.groups) (ids_of_perms entries.perms) entries.users
@@ -49,14 +56,14 @@ password_of None = []
 password_of (Some user) = user.password
 
 -- the map of a session that its user began, signed under the first key
-abbrev pub session_row : List (List ℕ) → List UserRow → SessionEntry → SessionRow
+unfoldable pub session_row : List (List ℕ) → List UserRow → SessionEntry → SessionRow
 session_row keys users entry = record {
   key = entry.key;
   text = text_of Stored (auth_members entry.user (path_of Model) (auth_hash (password_of (user_of users entry.user)) (key_at keys 0))) keys entry.began;
   expire = entry.expire;
 }
 
-abbrev pub opening_from : List (List ℕ) → Entries → Opening
+unfoldable pub opening_from : List (List ℕ) → Entries → Opening
 opening_from keys entries = record {
   keys = keys;
   users = entries.users;

@@ -11,7 +11,7 @@ use Rattle.pass_hashers.specs.declared.hasher.Algo.TheVariants as algos
 use Rattle.pass_hashers.specs.declared.hasher.Hasher.{Hasher}
 use Rattle.pass_hashers.specs.declared.hasher.Hasher.TheVariants as hashers
 use Rattle.signing_core.specs.Keys.{IsKeys}
-use Rattle.ledger_rows.specs.Opening.{AreDifferent}
+use Rattle.crypto_text.specs.TextList.{AreDifferent}
 use Rattle.ledger_rows.specs.declared.rows.Backend.TheVariants.{Model}
 use Rattle.ledger_rows.specs.declared.rows.Cfg.{Cfg}
 use Rattle.ledger_rows.specs.declared.rows.Engine.TheVariants.{Db}
@@ -20,7 +20,7 @@ use Rattle.site_file.specs.OpeningForm.{IsOpeningOf}
 use Rattle.site_file.specs.declared.settings.SettingsAll.{SettingsAll}
 
 -- the names of the fields: 1 is keys, 2 allowed_hosts, 5 hashers, 6 iterations, 11 common, 12 opening
-abbrev pub field_names : List (List ℕ)
+unfoldable pub field_names : List (List ℕ)
 field_names = codes "keys" ∷ codes "allowed_hosts" ∷ codes "hashers" ∷ codes "iterations" ∷ codes "common" ∷ codes "opening" ∷ []
 
 -- 1: the texts of the keys, which make a key list
@@ -33,7 +33,7 @@ abbrev pub AreHostsOf : Option Data → List (List ℕ) → Type 0
 AreHostsOf value hosts = list_or_empty as_str value ≡ Some hosts
 
 -- the algorithm of a name
-abbrev pub algo_named : List ℕ → Option Algo
+unfoldable pub algo_named : List ℕ → Option Algo
 algo_named name =
     if bytes_eq name (name_of algos.Pbkdf2Sha256) then Some algos.Pbkdf2Sha256
     else (if bytes_eq name (name_of algos.Pbkdf2Sha1) then Some algos.Pbkdf2Sha1 else (if bytes_eq name (name_of algos.Md5) then Some algos.Md5 else None))
@@ -81,7 +81,7 @@ preferred_of [] iterations = hashers.Md5
 preferred_of (algo ∷ rest) iterations = hasher_of algo iterations
 
 -- the configuration of these fields
-abbrev pub cfg_of : List Algo → ℕ → Cfg
+unfoldable pub cfg_of : List Algo → ℕ → Cfg
 cfg_of installed iterations = record { engine = Db; backends = Model ∷ []; installed = installed; preferred = preferred_of installed iterations }
 
 -- what a file says: the number of its first wrong field, or the site
@@ -94,7 +94,7 @@ abbrev pub Judges : {A : Type 0} → ℕ → (A → Type 0) → (A → Site → 
 Judges {A} number IsSaid Follows site = ((x : A) × IsSaid x × Follows x site) ⊎ (((x : A) → ¬ IsSaid x) × (site ≡ Wrong number))
 
 -- the fields in the order of their numbers
-abbrev pub IsSaidByFields : Data → Site → Type 0
+unfoldable pub IsSaidByFields : Data → Site → Type 0
 IsSaidByFields d =
     Judges 1 (AreKeysOf (get (codes "keys") d)) (λ keys.
     Judges 2 (AreHostsOf (get (codes "allowed_hosts") d)) (λ hosts.
@@ -114,7 +114,7 @@ pub record IsJsonOf (bytes : List ℕ) (d : Data) : Type 0 where
   pub says : read bytes ≡ Some d
 
 -- what a file of these bytes says: field 0 is wrong where it is no JSON text, or has more than 4,194,304 bytes
-abbrev pub IsSiteOf : List ℕ → Site → Type 0
+unfoldable pub IsSiteOf : List ℕ → Site → Type 0
 IsSiteOf bytes site =
     ((d : Data) × (length bytes ≤ 4194304) × IsJsonOf bytes d × IsSaidBy d site)
     ⊎ ((site ≡ Wrong 0) × ((4194304 < length bytes) ⊎ ((d : Data) → ¬ IsJsonOf bytes d)))

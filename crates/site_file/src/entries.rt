@@ -12,7 +12,7 @@ use serde_json::Value;
 use std::alloc::Global;
 
 /// An opening session as it is written down; its row's text is made of it.
-#[derive(Debug, Drop)]
+#[derive(Drop)]
 pub struct SessionEntry {
     pub key: Text,
     /// The id of its user.
@@ -27,7 +27,7 @@ pub struct SessionEntry {
 }
 
 /// All that the field writes down.
-#[derive(Debug, Drop)]
+#[derive(Drop)]
 pub struct Entries {
     pub users: RowList<UserRow>,
     pub groups: RowList<GroupRow>,
@@ -63,6 +63,7 @@ fn entries_in(alloc: Global, value: &Value) -> Result<Entries, FieldFault>
     }
 }
 
+#[tactic(auto, unfolding(crate::specs::Entries::entries_parts))]
 fn entries_parts(alloc: Global, value: &Value) -> Result<Entries, FieldFault>
     ensures ok { IfOk result (λ entries. entries_parts (view value.now) ≡ Some entries) }
     ensures form { IsErrOf result FieldFault.Form → entries_parts (view value.now) ≡ None }
@@ -100,6 +101,7 @@ impl FromValue for UserRow {
     }
 }
 
+#[tactic(auto, unfolding(crate::specs::Entries::user_parts))]
 fn user_parts(alloc: Global, value: &Value) -> Result<UserRow, FieldFault>
     ensures ok { IfOk result (λ row. user_parts (view value.now) ≡ Some row) }
     ensures form { IsErrOf result FieldFault.Form → user_parts (view value.now) ≡ None }
@@ -130,6 +132,7 @@ impl FromValue for GroupRow {
     }
 }
 
+#[tactic(auto, unfolding(crate::specs::Entries::group_parts))]
 fn group_parts(alloc: Global, value: &Value) -> Result<GroupRow, FieldFault>
     ensures ok { IfOk result (λ row. group_parts (view value.now) ≡ Some row) }
     ensures form { IsErrOf result FieldFault.Form → group_parts (view value.now) ≡ None }
@@ -154,6 +157,7 @@ impl FromValue for PermRow {
     }
 }
 
+#[tactic(auto, unfolding(crate::specs::Entries::perm_parts))]
 fn perm_parts(alloc: Global, value: &Value) -> Result<PermRow, FieldFault>
     ensures ok { IfOk result (λ row. perm_parts (view value.now) ≡ Some row) }
     ensures form { IsErrOf result FieldFault.Form → perm_parts (view value.now) ≡ None }
@@ -178,6 +182,7 @@ impl FromValue for SessionEntry {
     }
 }
 
+#[tactic(auto, unfolding(crate::specs::Entries::session_parts))]
 fn session_parts(alloc: Global, value: &Value) -> Result<SessionEntry, FieldFault>
     ensures ok { IfOk result (λ entry. session_parts (view value.now) ≡ Some entry) }
     ensures form { IsErrOf result FieldFault.Form → session_parts (view value.now) ≡ None }

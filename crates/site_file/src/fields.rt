@@ -58,6 +58,7 @@ pub(crate) trait FromValue: Drop {
 impl FromValue for u64 {
     ghost value_in = { number_in };
 
+    #[tactic(auto, unfolding(crate::specs::Fields::number_in))]
     fn from_value(_alloc: Global, value: &Value) -> Result<u64, FieldFault> {
         value.as_u64().ok_or(FieldFault::Form)
     }
@@ -91,6 +92,7 @@ impl FromValue for Ids {
 }
 
 /// The value under a name.
+#[tactic(auto, unfolding(crate::specs::Fields::field))]
 pub(crate) fn at<T: FromValue>(alloc: Global, value: &Value, name: &str) -> Result<T, FieldFault>
     ensures ok { IfOk result (λ x. field T.value_in name.now (view value.now) ≡ Some x) }
     ensures form { IsErrOf result FieldFault.Form → field T.value_in name.now (view value.now) ≡ None }
@@ -102,6 +104,7 @@ pub(crate) fn at<T: FromValue>(alloc: Global, value: &Value, name: &str) -> Resu
 }
 
 /// The list that may stand under a name.
+#[tactic(auto, unfolding(crate::specs::Fields::list_or_empty))]
 pub(crate) fn list_or_empty<T: FromValue>(
     alloc: Global,
     value: Option<&Value>,
@@ -116,6 +119,7 @@ pub(crate) fn list_or_empty<T: FromValue>(
 }
 
 /// The values of a list.
+#[tactic(auto, unfolding(crate::specs::Fields::list_in))]
 pub(crate) fn list_of<T: FromValue>(alloc: Global, value: &Value) -> Result<Vec<T>, FieldFault>
     ensures ok { IfOk result (λ list. list_in T.value_in (view value.now) ≡ Some list.items) }
     ensures form { IsErrOf result FieldFault.Form → list_in T.value_in (view value.now) ≡ None }

@@ -7,9 +7,8 @@ ghost use Rattle.pass_hashers.specs.PasswordText.{AreIterations};
 ghost use Rattle.pass_hashers.specs.declared.hasher.Algo.{Algo};
 ghost use Rattle.site_file.specs.SiteFile.{AreHashersOf, AreIterationsOf, AreNamesOf, algo_named, algos_named, cfg_of, hasher_of, preferred_of};
 
-use crate::different::are_different;
 use crate::fields::{FieldFault, list_of};
-use crypto_text::Text;
+use crypto_text::{Text, are_different};
 use ledger_rows::{Backend, Cfg, Engine, RowList};
 use pass_hashers::{Algo, Hasher, are_iterations};
 use serde_json::Value;
@@ -45,7 +44,7 @@ fn named_hashers(alloc: Global, value: &Value) -> Result<Vec<Algo>, FieldFault>
 {
     let names: Vec<Text> = list_of(alloc, value)?;
     let installed = algos_named(alloc, names.as_slice())?;
-    if !names.is_empty() && are_different(names.as_slice()) {
+    if !names.is_empty() && are_different(names) {
         Ok(installed)
     } else {
         Err(FieldFault::Form)
@@ -67,6 +66,7 @@ fn algos_named(alloc: Global, names: &[Text]) -> Result<Vec<Algo>, FieldFault>
     Ok(algos)
 }
 
+#[tactic(auto, unfolding(crate::specs::SiteFile::algo_named))]
 fn algo_named(name: &str) -> Option<Algo>
     ensures { result ≡ algo_named name.now }
 {
@@ -82,6 +82,7 @@ fn algo_named(name: &str) -> Option<Algo>
 }
 
 /// The iterations of both PBKDF2 hashers.
+#[tactic(auto, unfolding(crate::specs::Fields::number_in))]
 pub(crate) fn iterations_of(value: Option<&Value>) -> Result<u32, FieldFault>
     ensures ok { IfOk result (AreIterationsOf (option_map (λ v. view v.now) value.entry)) }
     ensures allowed { IfOk result AreIterations }
@@ -107,6 +108,7 @@ fn iterations_from(number: u64) -> Result<u32, FieldFault>
 }
 
 /// The configuration of these algorithms.
+#[tactic(auto, unfolding(crate::specs::SiteFile::cfg_of))]
 pub(crate) fn cfg_of(
     alloc: Global,
     installed: Vec<Algo>,

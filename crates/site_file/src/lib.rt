@@ -1,8 +1,7 @@
-//! The settings file of a site: one JSON object. `read_settings` reads it, and tells the number of the
+//! The settings file of a site: one JSON object. `read_settings` reads it, and reports the number of the
 //! first field that isn't well formed; `SiteFile.IsSiteOf` says which file says what.
 #![tactic(auto)]
 
-mod different;
 mod entries;
 mod fields;
 mod hashers;
@@ -16,4 +15,4 @@ mod tests;
 mod texts;
 
 pub use crate::entries::{Entries, SessionEntry};
-pub use crate::settings::{MOST_BYTES, Settings, SettingsAll, SettingsFault, read_settings};
+pub use crate::settings::{MOST_BYTES, SettingsAll, SettingsFault, read_settings};

@@ -2,10 +2,11 @@
 
 ghost use Rattle.std.specs.Prelude.{◌≡◌, None, IfOk, IsErrOf, IsSome, map, option_map};
 ghost use Rattle.std.specs.List.{All};
+ghost use Rattle.std.specs.List.Sorted.{IsStrictlyIncreasing};
 ghost use Rattle.serde_json.specs.View.{view};
 ghost use Rattle.signing_core.specs.Keys.{key_at};
-ghost use Rattle.ledger_rows.specs.Opening.{IsOpening};
-ghost use Rattle.ledger_rows.specs.State.{opening_state, user_of};
+ghost use Rattle.ledger_rows.specs.Opening.{IsOpening, ids_of_users};
+ghost use Rattle.ledger_rows.specs.Tables.{user_of};
 ghost use Rattle.ledger_rows.specs.declared.rows.Opening.{Opening};
 ghost use Rattle.site_file.specs.OpeningForm.{AreEntries, IsOpeningOf, opening_from, password_of, session_row};
 
@@ -25,7 +26,7 @@ pub(crate) fn opening_of(
     value: Option<&Value>,
 ) -> Result<Opening, FieldFault>
     ensures ok { IfOk result (IsOpeningOf keys (option_map (λ v. view v.now) value.entry)) }
-    ensures opening { IfOk result (λ opening. IsOpening (opening_state opening)) }
+    ensures opening { IfOk result (λ opening. IsOpening opening) }
     ensures form { IsErrOf result FieldFault.Form → (opening : Opening) → ¬ IsOpeningOf keys (option_map (λ v. view v.now) value.entry) opening }
 {
     let entries = entries_of(alloc, value)?;
@@ -36,10 +37,11 @@ pub(crate) fn opening_of(
     }
 }
 
+#[tactic(auto, unfolding(crate::specs::OpeningForm::opening_from))]
 fn opening_from(alloc: Global, keys: Keys, entries: Entries) -> Result<Opening, AllocError>
     requires { AreEntries entries }
     ensures value { IfOk result (λ opening. opening ≡ opening_from keys entries) }
-    ensures form { IfOk result (λ opening. IsOpening (opening_state opening)) }
+    ensures form { IfOk result (λ opening. IsOpening opening) }
 {
     let sessions = session_rows(
         alloc,
@@ -62,6 +64,7 @@ fn session_rows(
     users: &[UserRow],
     sessions: &[SessionEntry],
 ) -> Result<Vec<SessionRow>, AllocError>
+    requires { IsStrictlyIncreasing (ids_of_users users.now) }
     ensures { IfOk result (λ rows. rows.items ≡ map (session_row keys.now users.now) sessions.now) }
 {
     let mut rows = Vec::with_capacity(alloc, sessions.len())?;
@@ -71,12 +74,14 @@ fn session_rows(
     Ok(rows)
 }
 
+#[tactic(auto, unfolding(crate::specs::OpeningForm::session_row))]
 fn session_row(
     alloc: Global,
     keys: &Keys,
     users: &[UserRow],
     entry: &SessionEntry,
 ) -> Result<SessionRow, AllocError>
+    requires { IsStrictlyIncreasing (ids_of_users users.now) }
     ensures { IfOk result (λ row. row ≡ session_row keys.now users.now entry.now) }
 {
     let hash = session_auth_text(alloc, password_of(users, entry.user), keys.first())?;
@@ -90,6 +95,7 @@ fn session_row(
 }
 
 fn password_of(users: &[UserRow], id: u64) -> &str
+    requires { IsStrictlyIncreasing (ids_of_users users.now) }
     ensures { result.now ≡ password_of (user_of users.now id) }
 {
     match user_of(users, id) {

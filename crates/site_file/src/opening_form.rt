@@ -2,58 +2,83 @@
 
 ghost use Rattle.std.specs.Prelude.{◌≡◌, ◌↔◌, IfOk, IsTrue};
 ghost use Rattle.std.specs.List.{All};
+ghost use Rattle.std.specs.List.Sorted.{IsStrictlyIncreasing};
 ghost use Rattle.std.specs.Option.{option_copied};
 ghost use Rattle.permissions.specs.PermissionSet.{name_of};
-ghost use Rattle.ledger_rows.specs.Opening.{AreOpeningGroups, AreOpeningPerms, AreOpeningUsers, IsOpeningGroup, IsOpeningPerm, IsOpeningUser, ids_of_groups, ids_of_perms, ids_of_users, names_of_groups, names_of_perms, names_of_users};
-ghost use Rattle.ledger_rows.specs.State.{user_of};
-ghost use Rattle.ledger_rows.specs.Step.{IsMoment};
-ghost use Rattle.site_file.specs.OpeningForm.{AreEntries, AreSessionEntries, IsSessionEntry, keys_of_entries};
+ghost use Rattle.ledger_rows.specs.Opening.{AreOpeningGroups, AreOpeningPerms, AreOpeningUsers, AreRowIds, IsOpeningGroup, IsOpeningPerm, IsOpeningUser, ids_of_groups, ids_of_perms, ids_of_users, names_of_groups, names_of_perms, names_of_users};
+ghost use Rattle.ledger_rows.specs.Tables.{user_of};
+ghost use Rattle.site_file.specs.OpeningForm.{AreEntries, AreSessionEntries, HaveRowIds, IsSessionEntry, keys_of_entries};
 
-use crate::different::are_different;
 use crate::entries::{Entries, SessionEntry};
 use crate::row_ids::{are_ids_among, are_row_ids};
-use crypto_text::Text;
+use crypto_text::{Text, are_different, is_moment};
 use ledger_rows::{UserRow, is_email, is_permission_word, is_session_key, is_user_name};
 use pass_hashers::is_password_text;
 use permissions::{GroupRow, PermRow};
 use std::alloc::{AllocError, Global};
 
-const FIRST_MOMENT: u64 = 1_000_000_000;
-
-const LAST_MOMENT: u64 = 250_000_000_000;
-
-/// Whether all rows are well formed.
+/// Whether all rows are well formed. The ids of a table come first: where they rise, rows are found by halves.
 pub(crate) fn are_entries(alloc: Global, entries: &Entries) -> Result<bool, AllocError>
     ensures { IfOk result (λ answer. IsTrue answer ↔ AreEntries entries.now) }
 {
-    let users = are_users(alloc, entries)?;
-    let groups = are_groups(alloc, entries)?;
-    let perms = are_perms(alloc, entries.perms.items())?;
-    let sessions = are_sessions(alloc, entries.users.items(), entries.sessions.items())?;
-    Ok(users && groups && perms && sessions)
-}
-
-fn are_users(alloc: Global, entries: &Entries) -> Result<bool, AllocError>
-    ensures { IfOk result (λ answer. IsTrue answer ↔ AreOpeningUsers (ids_of_groups entries.now.groups) (ids_of_perms entries.now.perms) entries.now.users) }
-{
-    let ids = user_ids(alloc, entries.users.items())?;
-    let names = user_names(alloc, entries.users.items())?;
     let groups = group_ids(alloc, entries.groups.items())?;
     let perms = perm_ids(alloc, entries.perms.items())?;
-    Ok(
-        are_row_ids(ids.as_slice())
-            && are_different(names.as_slice())
-            && are_user_rows(groups.as_slice(), perms.as_slice(), entries.users.items()),
-    )
+    let users = user_ids(alloc, entries.users.items())?;
+    if are_row_ids(groups.as_slice())
+        && are_row_ids(perms.as_slice())
+        && are_row_ids(users.as_slice())
+    {
+        are_rows(alloc, groups.as_slice(), perms.as_slice(), entries)
+    } else {
+        Ok(false)
+    }
+}
+
+fn are_rows(
+    alloc: Global,
+    groups: &[u64],
+    perms: &[u64],
+    entries: &Entries,
+) -> Result<bool, AllocError>
+    requires ids { HaveRowIds entries.now }
+    requires groups { groups.now ≡ ids_of_groups entries.now.groups }
+    requires perms { perms.now ≡ ids_of_perms entries.now.perms }
+    ensures { IfOk result (λ answer. IsTrue answer ↔ AreEntries entries.now) }
+{
+    let users = entries.users.items();
+    let of_users = are_users(alloc, groups, perms, users)?;
+    let of_groups = are_groups(alloc, perms, entries.groups.items())?;
+    let of_perms = are_perms(alloc, entries.perms.items())?;
+    let of_sessions = are_sessions(alloc, users, entries.sessions.items())?;
+    Ok(of_users && of_groups && of_perms && of_sessions)
+}
+
+fn are_users(
+    alloc: Global,
+    groups: &[u64],
+    perms: &[u64],
+    users: &[UserRow],
+) -> Result<bool, AllocError>
+    requires ids { AreRowIds (ids_of_users users.now) }
+    requires groups { IsStrictlyIncreasing groups.now }
+    requires perms { IsStrictlyIncreasing perms.now }
+    ensures { IfOk result (λ answer. IsTrue answer ↔ AreOpeningUsers groups.now perms.now users.now) }
+{
+    let names = user_names(alloc, users)?;
+    Ok(are_different(names) && are_user_rows(groups, perms, users))
 }
 
 fn are_user_rows(groups: &[u64], perms: &[u64], users: &[UserRow]) -> bool
+    requires groups { IsStrictlyIncreasing groups.now }
+    requires perms { IsStrictlyIncreasing perms.now }
     ensures { IsTrue result ↔ All (IsOpeningUser groups.now perms.now) users.now }
 {
     users.iter().all(|user| is_user(groups, perms, user))
 }
 
 fn is_user(groups: &[u64], perms: &[u64], user: &UserRow) -> bool
+    requires groups { IsStrictlyIncreasing groups.now }
+    requires perms { IsStrictlyIncreasing perms.now }
     ensures { IsTrue result ↔ IsOpeningUser groups.now perms.now user.now }
 {
     is_user_name(user.name.as_str())
@@ -64,20 +89,17 @@ fn is_user(groups: &[u64], perms: &[u64], user: &UserRow) -> bool
         && are_ids_among(perms, user.perms.items())
 }
 
-fn are_groups(alloc: Global, entries: &Entries) -> Result<bool, AllocError>
-    ensures { IfOk result (λ answer. IsTrue answer ↔ AreOpeningGroups (ids_of_perms entries.now.perms) entries.now.groups) }
+fn are_groups(alloc: Global, perms: &[u64], groups: &[GroupRow]) -> Result<bool, AllocError>
+    requires ids { AreRowIds (ids_of_groups groups.now) }
+    requires perms { IsStrictlyIncreasing perms.now }
+    ensures { IfOk result (λ answer. IsTrue answer ↔ AreOpeningGroups perms.now groups.now) }
 {
-    let ids = group_ids(alloc, entries.groups.items())?;
-    let names = group_names(alloc, entries.groups.items())?;
-    let perms = perm_ids(alloc, entries.perms.items())?;
-    Ok(
-        are_row_ids(ids.as_slice())
-            && are_different(names.as_slice())
-            && are_group_rows(perms.as_slice(), entries.groups.items()),
-    )
+    let names = group_names(alloc, groups)?;
+    Ok(are_different(names) && are_group_rows(perms, groups))
 }
 
 fn are_group_rows(perms: &[u64], groups: &[GroupRow]) -> bool
+    requires { IsStrictlyIncreasing perms.now }
     ensures { IsTrue result ↔ All (IsOpeningGroup perms.now) groups.now }
 {
     groups.iter().all(|group| is_group(perms, group))
@@ -85,17 +107,18 @@ fn are_group_rows(perms: &[u64], groups: &[GroupRow]) -> bool
 
 #[tactic(auto, unfolding(ledger_rows::specs::Opening::IsOpeningGroup))]
 fn is_group(perms: &[u64], group: &GroupRow) -> bool
+    requires { IsStrictlyIncreasing perms.now }
     ensures { IsTrue result ↔ IsOpeningGroup perms.now group.now }
 {
     are_ids_among(perms, group.perms.items())
 }
 
 fn are_perms(alloc: Global, perms: &[PermRow]) -> Result<bool, AllocError>
+    requires { AreRowIds (ids_of_perms perms.now) }
     ensures { IfOk result (λ answer. IsTrue answer ↔ AreOpeningPerms perms.now) }
 {
-    let ids = perm_ids(alloc, perms)?;
     let names = perm_names(alloc, perms)?;
-    Ok(are_row_ids(ids.as_slice()) && are_different(names.as_slice()) && are_perm_rows(perms))
+    Ok(are_different(names) && are_perm_rows(perms))
 }
 
 fn are_perm_rows(perms: &[PermRow]) -> bool
@@ -115,19 +138,22 @@ fn are_sessions(
     users: &[UserRow],
     sessions: &[SessionEntry],
 ) -> Result<bool, AllocError>
+    requires { IsStrictlyIncreasing (ids_of_users users.now) }
     ensures { IfOk result (λ answer. IsTrue answer ↔ AreSessionEntries users.now sessions.now) }
 {
     let keys = session_keys(alloc, sessions)?;
-    Ok(are_different(keys.as_slice()) && are_session_rows(users, sessions))
+    Ok(are_different(keys) && are_session_rows(users, sessions))
 }
 
 fn are_session_rows(users: &[UserRow], sessions: &[SessionEntry]) -> bool
+    requires { IsStrictlyIncreasing (ids_of_users users.now) }
     ensures { IsTrue result ↔ All (IsSessionEntry users.now) sessions.now }
 {
     sessions.iter().all(|entry| is_session(users, entry))
 }
 
 fn is_session(users: &[UserRow], entry: &SessionEntry) -> bool
+    requires { IsStrictlyIncreasing (ids_of_users users.now) }
     ensures { IsTrue result ↔ IsSessionEntry users.now entry.now }
 {
     is_session_key(entry.key.as_str())
@@ -138,22 +164,15 @@ fn is_session(users: &[UserRow], entry: &SessionEntry) -> bool
         && is_moment(entry.expire)
 }
 
-/// The user of an id.
+/// The user of an id, found by halves.
 pub(crate) fn user_of(users: &[UserRow], id: u64) -> Option<&UserRow>
+    requires { IsStrictlyIncreasing (ids_of_users users.now) }
     ensures { option_copied result ≡ user_of users.now id }
 {
-    for user in users {
-        if user.id == id {
-            return Some(user);
-        }
+    match users.binary_search_by_key(&id, |user| user.id) {
+        Ok(index) => Some(&users[index]),
+        Err(_) => None,
     }
-    None
-}
-
-fn is_moment(now: u64) -> bool
-    ensures { IsTrue result ↔ IsMoment now }
-{
-    FIRST_MOMENT <= now && now <= LAST_MOMENT
 }
 
 fn user_ids(alloc: Global, users: &[UserRow]) -> Result<Vec<u64>, AllocError>

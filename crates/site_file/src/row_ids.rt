@@ -14,8 +14,9 @@ pub(crate) fn are_row_ids(ids: &[u64]) -> bool
     are_ids(ids) && are_rising(ids)
 }
 
-/// Whether these are ids of present rows, in rising order.
+/// Whether these are ids of present rows, in rising order. The present rows' ids rise too, so each is found by halves.
 pub(crate) fn are_ids_among(present: &[u64], ids: &[u64]) -> bool
+    requires { IsStrictlyIncreasing present.now }
     ensures { IsTrue result ↔ AreIdsAmong present.now ids.now }
 {
     are_rising(ids) && are_present(present, ids)
@@ -45,19 +46,15 @@ fn are_rising(ids: &[u64]) -> bool
 }
 
 fn are_present(present: &[u64], ids: &[u64]) -> bool
+    requires { IsStrictlyIncreasing present.now }
     ensures { IsTrue result ↔ All (IsIdAmong present.now) ids.now }
 {
     ids.iter().all(|&id| is_present(present, id))
 }
 
-#[tactic(auto, unfolding(ledger_rows::specs::Opening::IsIdAmong))]
 fn is_present(present: &[u64], id: u64) -> bool
+    requires { IsStrictlyIncreasing present.now }
     ensures { IsTrue result ↔ IsIdAmong present.now id }
 {
-    for known in present {
-        if *known == id {
-            return true;
-        }
-    }
-    false
+    present.binary_search(&id).is_ok()
 }

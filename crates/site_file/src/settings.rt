@@ -7,7 +7,6 @@ ghost use Rattle.pass_hashers.specs.PasswordText.{AreIterations};
 ghost use Rattle.pass_hashers.specs.declared.hasher.Algo.{Algo};
 ghost use Rattle.ledger_rows.specs.Form.{IsCfg};
 ghost use Rattle.ledger_rows.specs.Opening.{IsOpening};
-ghost use Rattle.ledger_rows.specs.State.{opening_state};
 ghost use Rattle.ledger_rows.specs.declared.rows.Opening.{Opening};
 ghost use Rattle.site_file.specs.OpeningForm.{IsOpeningOf};
 ghost use Rattle.site_file.specs.SiteFile.{AreCommonOf, AreHashersOf, AreHostsOf, AreIterationsOf, AreKeysOf, IsSaidBy, IsSaidByFields, IsSiteOf, Says, Wrong, field_names};
@@ -18,38 +17,32 @@ use crate::hashers::{cfg_of, hashers_of, iterations_of};
 use crate::opening::opening_of;
 use crate::texts::{common_of, hosts_of, keys_of};
 use crypto_text::TextList;
-use ledger_rows::{Cfg, Opening};
+use ledger_rows::Opening;
+use middleware_chain::Settings;
 use pass_hashers::Algo;
 use serde_json::Value;
 use signing_core::Keys;
 use std::alloc::{AllocError, Global};
+use thiserror::Error;
 
 /// The greatest settings file, in bytes.
 pub const MOST_BYTES: usize = 4_194_304;
 
-/// What a site's requests are answered by.
-#[derive(Debug, Drop)]
-pub struct Settings {
-    pub cfg: Cfg,
-    /// The hosts that the site answers to.
-    pub allowed: TextList,
-    /// Passwords that are too common, in lower case.
-    pub common: TextList,
-}
-
 /// What a settings file says.
-#[derive(Debug, Drop)]
+#[derive(Drop)]
 pub struct SettingsAll {
     pub settings: Settings,
     pub opening: Opening,
 }
 
 /// Why a settings file isn't taken.
-#[derive(Clone, Copy, Debug, PartialEq, Eq)]
+#[derive(Clone, Copy, Debug, Drop, Error, PartialEq, Eq)]
 pub enum SettingsFault {
     /// The number of the first field that isn't well formed; 0 where the bytes are no JSON object, are too
     /// many, or name an unknown field.
+    #[error("the field {field} of the settings isn't well formed")]
     Wrong { field: u32 },
+    #[error("out of memory")]
     Memory,
 }
 
@@ -65,10 +58,11 @@ impl From<AllocError> for SettingsFault {
 }
 
 /// Reads a settings file. `docs/SETTINGS.md` lists the fields, their numbers and forms.
+#[tactic(auto, unfolding(crate::specs::SiteFile::IsSiteOf))]
 pub fn read_settings(alloc: Global, bytes: &[u8]) -> Result<SettingsAll, SettingsFault>
     ensures ok { IfOk result (λ site. IsSiteOf bytes.now (Says site)) }
     ensures wrong { (field : ℕ) → IsErrOf result (SettingsFault.Wrong field) → IsSiteOf bytes.now (Wrong field) }
-    ensures opening { IfOk result (λ site. IsOpening (opening_state site.opening)) }
+    ensures opening { IfOk result (λ site. IsOpening site.opening) }
     ensures cfg { IfOk result (λ site. IsCfg site.settings.cfg) }
 {
     if bytes.len() > MOST_BYTES {
@@ -87,7 +81,7 @@ pub fn read_settings(alloc: Global, bytes: &[u8]) -> Result<SettingsAll, Setting
 fn said_by(alloc: Global, value: &Value) -> Result<SettingsAll, SettingsFault>
     ensures ok { IfOk result (λ site. IsSaidBy (view value.now) (Says site)) }
     ensures wrong { (field : ℕ) → IsErrOf result (SettingsFault.Wrong field) → IsSaidBy (view value.now) (Wrong field) }
-    ensures opening { IfOk result (λ site. IsOpening (opening_state site.opening)) }
+    ensures opening { IfOk result (λ site. IsOpening site.opening) }
     ensures cfg { IfOk result (λ site. IsCfg site.settings.cfg) }
 {
     if has_field_names(value) {
@@ -97,6 +91,7 @@ fn said_by(alloc: Global, value: &Value) -> Result<SettingsAll, SettingsFault>
     }
 }
 
+#[tactic(auto, unfolding(crate::specs::SiteFile::field_names))]
 fn has_field_names(value: &Value) -> bool
     ensures { result ≡ has_only field_names (as_object (view value.now)) }
 {
@@ -113,10 +108,11 @@ fn has_field_names(value: &Value) -> bool
     )
 }
 
+#[tactic(auto, unfolding(crate::specs::SiteFile::IsSaidByFields))]
 fn said_by_fields(alloc: Global, value: &Value) -> Result<SettingsAll, SettingsFault>
     ensures ok { IfOk result (λ site. IsSaidByFields (view value.now) (Says site)) }
     ensures wrong { (field : ℕ) → IsErrOf result (SettingsFault.Wrong field) → IsSaidByFields (view value.now) (Wrong field) }
-    ensures opening { IfOk result (λ site. IsOpening (opening_state site.opening)) }
+    ensures opening { IfOk result (λ site. IsOpening site.opening) }
     ensures cfg { IfOk result (λ site. IsCfg site.settings.cfg) }
 {
     let keys = keys_field(alloc, value)?;
@@ -190,7 +186,7 @@ fn common_field(alloc: Global, value: &Value) -> Result<TextList, SettingsFault>
 
 fn opening_field(alloc: Global, keys: Keys, value: &Value) -> Result<Opening, SettingsFault>
     ensures ok { IfOk result (IsOpeningOf keys (get (codes "opening") (view value.now))) }
-    ensures opening { IfOk result (λ opening. IsOpening (opening_state opening)) }
+    ensures opening { IfOk result (λ opening. IsOpening opening) }
     ensures wrong { (field : ℕ) → IsErrOf result (SettingsFault.Wrong field) → (field ≡ 12) × ((opening : Opening) → ¬ IsOpeningOf keys (get (codes "opening") (view value.now)) opening) }
 {
     match opening_of(alloc, keys, value.get("opening")) {

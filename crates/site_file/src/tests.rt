@@ -101,7 +101,7 @@ fn hashers_have_the_iterations_of_the_site(rt: HostRuntime) -> Result<(), Fail> 
 }
 
 #[test]
-fn the_first_wrong_field_is_told(rt: HostRuntime) {
+fn the_first_wrong_field_is_reported(rt: HostRuntime) {
     let alloc = rt.alloc();
     for (text, field) in [
         ("", 0),
@@ -155,7 +155,7 @@ fn opening_of(alloc: Global, opening: &str) -> Result<String, Fail> {
 }
 
 #[test]
-fn an_opening_out_of_form_is_told(rt: HostRuntime) -> Result<(), Fail> {
+fn an_opening_out_of_form_is_reported(rt: HostRuntime) -> Result<(), Fail> {
     let alloc = rt.alloc();
     for opening in [
         r#"{"user":[]}"#,
@@ -190,7 +190,7 @@ fn an_opening_out_of_form_is_told(rt: HostRuntime) -> Result<(), Fail> {
 }
 
 #[test]
-fn a_session_out_of_form_is_told(rt: HostRuntime) -> Result<(), Fail> {
+fn a_session_out_of_form_is_reported(rt: HostRuntime) -> Result<(), Fail> {
     let alloc = rt.alloc();
     for (sessions, field) in [
         ("", 99),

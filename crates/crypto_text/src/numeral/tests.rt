@@ -58,5 +58,8 @@ fn decimal_numbers_are_read(rt: HostRuntime) {
     }
     for text in ["", "00", "01", "+1", "18446744073709551616", "1a"] {
         assert_eq!(rt; decimal_decode(text), None, "{text}");
+        assert_eq!(rt; positive_decode(text), None, "{text}");
     }
+    assert_eq!(rt; positive_decode("0"), None);
+    assert_eq!(rt; positive_decode("18446744073709551615"), Some(u64::MAX));
 }

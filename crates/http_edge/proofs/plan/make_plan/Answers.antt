@@ -1,7 +1,7 @@
 use Rattle.std.proofs.Common.{◌≡◌, ◌∙◌, ap, ℕ, List, [], ◌+◌, length, None}
 use Rattle.httparse.specs.Grammar.{RequestHead, print_request}
 use Rattle.http_edge.specs.RequestFraming.{length_of}
-use Rattle.http_edge.specs.HeadFault.{fault_of, body_length, told_length}
+use Rattle.http_edge.specs.HeadFault.{fault_of, body_length, stated_length}
 use Rattle.http_edge.specs.HeaderFields.{fields_of, request_by}
 use Rattle.http_edge.specs.declared.request.Request.{Request}
 use Rattle.http_edge.proofs.plan.make_plan.Goals as goal
@@ -10,10 +10,10 @@ sound : (a b : List ℕ) (fs gs : List (List ℕ × List ℕ)) → a ≡ b → f
 sound a b fs gs same also is = cc
 
 total : (len n : ℕ) (h : RequestHead) (fs : List (List ℕ × List ℕ)) → len ≡ length (print_request h) → fs ≡ fields_of h
-    → n ≡ body_length (told_length fs) → len + n ≡ length (print_request h) + length_of h
+    → n ≡ body_length (stated_length fs) → len + n ≡ length (print_request h) + length_of h
 unfolding length_of
 total len n h fs at same is =
-    let body : n ≡ body_length (told_length (fields_of h)) = is ∙ ap (λ gs. body_length (told_length gs)) same in
+    let body : n ≡ body_length (stated_length (fields_of h)) = is ∙ ap (λ gs. body_length (stated_length gs)) same in
     cc
 
 same : (m n t u : List ℕ) (v w : ℕ) (fs gs : List (List ℕ × List ℕ)) (r : Request) → m ≡ n → t ≡ u → v ≡ w → fs ≡ gs

@@ -1,11 +1,10 @@
-use Rattle.std.proofs.Common.{◌≡◌, ◌<◌, ℕ, get_or, length}
-use Rattle.outside.specs.RandomWords.{place_after}
+use Rattle.std.proofs.Common.{◌≡◌, length, take}
+use Rattle.outside.specs.RandomWords.{after_words, words_from}
 use Rattle.outside.proofs.random_words.draw_request.Given as goal
 
-abbrev pub invariant-loop-place : goal.invariant-loop-place
-invariant-loop-place g l = record {
+abbrev pub invariant-loop-at : goal.invariant-loop-at
+invariant-loop-at g l = record {
   count : length l.drawn ≡ 1024;
-  place_now : g.W.Words.place l.words ≡ place_after (g.W.Words.place l.fn.words) l.place;
-  rule : g.W.Words.word_at l.words ≡ g.W.Words.word_at l.fn.words;
-  each : (i : ℕ) → i < l.place → get_or l.drawn i 0 ≡ g.W.Words.word_at l.fn.words (place_after (g.W.Words.place l.fn.words) i);
+  drawn : take l.at l.drawn ≡ words_from (g.W.Words.seen l.fn.words) l.at;
+  now : g.W.Words.seen l.words ≡ after_words (g.W.Words.seen l.fn.words) l.at;
 }

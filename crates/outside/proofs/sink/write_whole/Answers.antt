@@ -1,7 +1,7 @@
 use Rattle.std.proofs.Common.{rules, take, drop}
 use Rattle.std.proofs.Math.Seq.{take-add}
 use Rattle.std.proofs.lemmas.List.{take_rest}
-use Rattle.outside.proofs.Telling.{writes_more}
+use Rattle.outside.proofs.Calls.{write_more}
 use Rattle.outside.proofs.sink.write_whole.Goals as goal
 
 pub loop-done-preserved : goal.loop-done-preserved
@@ -12,7 +12,6 @@ loop-done-preserved g c =
     record {
       within = search rules;
       writes = rw (take-add done count piece)
-          (writes_more g.T.Sink.written g.T.Sink.write_faults c.args.sink.now c.loop-done.sink c.write.new.self
-          (take done piece) (take count (drop done piece)) c.loop-done.invariant.writes
-          (record { bytes = rw take_rest at c.in_ok-done.ensures.writes; count = search rules }));
+          (write_more _ _ _ (take done piece) (take count (drop done piece)) c.loop-done.invariant.writes
+          (rw take_rest at c.in_ok-done.ensures.ok));
     }

@@ -1,23 +1,21 @@
-use Rattle.std.proofs.Common.{◌∙◌, sym}
+use Rattle.std.proofs.Common.{ℕ, subst, sym, ◌∙◌}
+use Rattle.std.specs.Cmp.Lexicographic.{slice_cmp}
+use Rattle.std.specs.Ordering.{nat_cmp}
+use Rattle.std.specs.List.Sorted.{IsStrictlySortedBy}
+use Rattle.std.proofs.lemmas.List.Sorted.{IsNonDecreasingBy-from_sort}
 use Rattle.permissions.specs.PermissionSet.{is_held}
-use Rattle.permissions.proofs.PermissionSetLemmas.{names_of-failed, names_of-nil, names_of-passed}
-use Rattle.permissions.proofs.permission_set.held_names.Goals.{then-is_held+in_ok-name_of+in_ok-insert, else-is_held}
+use Rattle.permissions.proofs.PermissionSetLemmas.{ascending-names_of, is_held-permutation, names_of-same}
 use Rattle.permissions.proofs.permission_set.held_names.Goals as goal
 
-pub loop-row-init : goal.loop-row-init
-loop-row-init c = c.new-names.ensures.empty ∙ sym (names_of-nil (is_held c.args.own.now c.args.user.now c.args.groups.now))
+pub names_among-requires : goal.names_among-requires
+names_among-requires c = rw c.deref.ensures.value (IsNonDecreasingBy-from_sort (λ (id : ℕ). id) _ c.sort_unstable.ensures.sorted)
 
-pub loop-row-preserved : goal.loop-row-preserved
-loop-row-preserved c =
-    let rows = c.args.perms.now in
-    let row = c.row-item.result in
-    elim c.if-is_held.branch [
-      | then-is_held+in_ok-name_of+in_ok-insert w ↦
-          let passed = names_of-passed (is_held c.args.own.now c.args.user.now c.args.groups.now) rows c.loop-row.row-index row
-          c.loop-row-test.true c.row-item.is (sym c.is_held.ensures ∙ w.if-is_held.true) in
-          rw (w.names-is, w.in_ok-insert.ensures.keys, w.in_ok-name_of.ensures, c.loop-row.invariant, passed)
-      | else-is_held w ↦
-          let failed = names_of-failed (is_held c.args.own.now c.args.user.now c.args.groups.now) rows c.loop-row.row-index row
-          c.loop-row-test.true c.row-item.is (sym c.is_held.ensures ∙ w.if-is_held.false) in
-          rw (w.names-is, c.loop-row.invariant, failed)
-    ]
+pub returns-clause-names : goal.returns-clause-names
+returns-clause-names c =
+    let user = c.args.user.now in
+    let sorted = c.sort_unstable.new.self.items in
+    let same = names_of-same (is_held user sorted) (is_held user c.args.ids.items) (is_held-permutation user c.args.ids.items sorted c.sort_unstable.ensures.permutation) c.args.perms.now in
+    (rw c.deref.ensures.value at c.in_ok-names.ensures) ∙ same
+
+pub returns-clause-ascending : goal.returns-clause-ascending
+returns-clause-ascending c = subst (IsStrictlySortedBy (slice_cmp nat_cmp)) (sym c.in_ok-names.ensures) (ascending-names_of (is_held c.args.user.now c.deref.result.now) c.args.perms.now)

@@ -14,14 +14,14 @@ returns-in_default-clause-expired c = λ some age. (λ is. absurd (cc), λ old. 
 pub returns-then-not-made-clause-ok : goal.returns-then-not-made-clause-ok
 returns-then-not-made-clause-ok c = λ some. (
   λ is. absurd (cc),
-  λ valid. absurd (iff_false c.in-Ok.ensures c.if-not-made.true (IsMade-same _ _ _ _ _ c.in-Some.ensures valid.made).1),
+  λ valid. absurd (iff_false c.in_ok-made.ensures c.if-not-made.true (IsMade-same _ _ _ _ _ c.in-Some.ensures valid.made).1),
 )
 
 pub returns-then-not-made-clause-mismatch : goal.returns-then-not-made-clause-mismatch
 returns-then-not-made-clause-mismatch c = λ some. (
   λ is. record {
     shape = (c.in-Some.number, c.in-Some.ensures);
-    unmade = λ n made. iff_false c.in-Ok.ensures c.if-not-made.true (IsMade-same _ _ _ n _ c.in-Some.ensures made).1;
+    unmade = λ n made. iff_false c.in_ok-made.ensures c.if-not-made.true (IsMade-same _ _ _ n _ c.in-Some.ensures made).1;
   },
   λ mismatch. refl,
 )
@@ -29,7 +29,7 @@ returns-then-not-made-clause-mismatch c = λ some. (
 pub returns-then-not-made-clause-expired : goal.returns-then-not-made-clause-expired
 returns-then-not-made-clause-expired c = λ some age. (
   λ is. absurd (cc),
-  λ old. absurd (iff_false c.in-Ok.ensures c.if-not-made.true (IsMade-same _ _ _ _ _ c.in-Some.ensures old.made).1),
+  λ old. absurd (iff_false c.in_ok-made.ensures c.if-not-made.true (IsMade-same _ _ _ _ _ c.in-Some.ensures old.made).1),
 )
 
 pub returns-then-age-gt-MOST_AGE-clause-ok : goal.returns-then-age-gt-MOST_AGE-clause-ok
@@ -47,7 +47,7 @@ returns-then-age-gt-MOST_AGE-clause-expired c = λ some age. (
       let same : c.saturating_sub-age.result ≡ age = cc in
       record {
         number = c.in-Some.number;
-        made = c.in-Ok.ensures.0 c.if-not-made.false;
+        made = c.in_ok-made.ensures.0 c.if-not-made.false;
         age_is = sym same ∙ c.saturating_sub-age.ensures;
         beyond = omega (arith, same, c.if-age-gt-MOST_AGE.true);
       },

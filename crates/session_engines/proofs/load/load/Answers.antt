@@ -1,9 +1,10 @@
-use Rattle.std.proofs.Common.{sym, ◌∙◌}
+use Rattle.std.proofs.Common.{refl}
 use Rattle.std.specs.Option.{option_copied}
-use Rattle.session_engines.proofs.LoadLemmas.{loaded_none, on_holding_one}
+use Rattle.ledger_rows.specs.declared.operation.Op.TheVariants.{Load}
+use Rattle.session_engines.proofs.AnswerLemmas.{unchanged-answer}
 use Rattle.session_engines.proofs.load.load.Goals as goal
 
-pub returns-in_ok-unstored-in-None-clause-reply : goal.returns-in_ok-unstored-in-None-clause-reply
-returns-in_ok-unstored-in-None-clause-reply g c =
-    on_holding_one _ _ _ c.in_ok-text.ensures.value
-    (λ contents is. loaded_none c.args.cfg.now.backends contents.tables (option_copied c.args.cookie) c.args.now _ (sym c.in-None.is ∙ is) (c.in_ok-unstored-in-None.ensures.value c.args.cfg.now.backends contents.tables.keys))
+pub returns-clause-ok : goal.returns-clause-ok
+returns-clause-ok g c =
+    unchanged-answer c.args.cfg.now (Load (option_copied c.args.cookie) c.args.now) (g.K.Keeper.seen c.args.keeper.now) c.unchanged.result c.in_ok-reply.reply
+    c.unchanged.ensures.reply c.unchanged.ensures.changes c.in_ok-reply.ensures.kind c.in_ok-reply.ensures.value (λ tables. refl)

@@ -1,5 +1,5 @@
 use Rattle.std.proofs.Common.{◌∷◌, take}
-use Rattle.signing_core.specs.Keys.{AreDifferent}
+use Rattle.crypto_text.specs.TextList.{AreDifferent}
 use Rattle.signing_core.proofs.keys.first_twice.Given as goal
 
 abbrev pub invariant-loop-i : goal.invariant-loop-i

@@ -1,16 +1,18 @@
 use Rattle.std.proofs.Common.{inl, inr, ap, refl, Err}
 use Rattle.std.proofs.lemmas.Result.{err_from_is_err_and}
-use Rattle.site_file.specs.SiteFile.{Wrong}
+use Rattle.site_file.specs.SiteFile.{IsSaidByFields, Wrong}
 use Rattle.site_file.proofs.SiteFileLemmas.{same_refusal}
 use Rattle.site_file.proofs.settings.said_by_fields.Goals as goal
 
 pub returns-in_err-installed-clause-wrong : goal.returns-in_err-installed-clause-wrong
+unfolding IsSaidByFields
 returns-in_err-installed-clause-wrong c = λ field is.
     let p = err_from_is_err_and c.from_residual-in_err-installed.result c.from_residual-in_err-installed.ensures.1 in
     let said = c.in_err-installed.ensures.wrong field (ap Err (same_refusal _ _ _ _ p.1 p.2 is)) in
     inl (c.in_ok-keys.keys, c.in_ok-keys.ensures.ok, inl (c.in_ok-allowed.allowed, c.in_ok-allowed.ensures.ok, inr (said.1, ap Wrong said.0)))
 
 pub returns-in_err-iterations-clause-wrong : goal.returns-in_err-iterations-clause-wrong
+unfolding IsSaidByFields
 returns-in_err-iterations-clause-wrong c = λ field is.
     let p = err_from_is_err_and c.from_residual-in_err-iterations.result c.from_residual-in_err-iterations.ensures.1 in
     let said = c.in_err-iterations.ensures.wrong field (ap Err (same_refusal _ _ _ _ p.1 p.2 is)) in
@@ -25,6 +27,7 @@ returns-in_err-iterations-clause-wrong c = λ field is.
     )
 
 pub returns-in_err-common-clause-wrong : goal.returns-in_err-common-clause-wrong
+unfolding IsSaidByFields
 returns-in_err-common-clause-wrong c = λ field is.
     let p = err_from_is_err_and c.from_residual-in_err-common.result c.from_residual-in_err-common.ensures.1 in
     let said = c.in_err-common.ensures.wrong field (ap Err (same_refusal _ _ _ _ p.1 p.2 is)) in
@@ -47,6 +50,7 @@ returns-in_err-common-clause-wrong c = λ field is.
     )
 
 pub returns-in_err-opening-clause-wrong : goal.returns-in_err-opening-clause-wrong
+unfolding IsSaidByFields
 returns-in_err-opening-clause-wrong c = λ field is.
     let p = err_from_is_err_and c.from_residual-in_err-opening.result c.from_residual-in_err-opening.ensures.1 in
     let said = c.in_err-opening.ensures.wrong field (ap Err (same_refusal _ _ _ _ p.1 p.2 is)) in
@@ -69,6 +73,7 @@ returns-in_err-opening-clause-wrong c = λ field is.
     )
 
 pub returns-clause-ok : goal.returns-clause-ok
+unfolding IsSaidByFields
 returns-clause-ok c =
     inl (
       c.in_ok-keys.keys,

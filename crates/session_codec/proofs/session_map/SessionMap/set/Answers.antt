@@ -1,4 +1,4 @@
-use Rattle.std.proofs.Common.{◌≡◌, ◌∙◌, ap, string_bytes}
+use Rattle.std.proofs.Common.{◌≡◌, ◌∙◌, ap, rules, string_bytes}
 use Rattle.std.proofs.lemmas.Result.{on_err_weaker, on_ok_weaker}
 use Rattle.std.proofs.lemmas.Str.{IsUtf8-string_bytes}
 use Rattle.serde_json.specs.Data.{put}
@@ -11,7 +11,7 @@ invariant_of-self c =
     let old = members_view c.in-Some.members.now.entries in
     let name = string_bytes c.in_ok-name.name in
     let before = lent_session (view c.self.inside.members) old c.self.invariant c.in-Some.ensures.value in
-    let after = put_session name (view c.args.value) old (IsUtf8-string_bytes c.in_ok-name.name) c.requires before in
+    let after = put_session name (view c.args.value) old (IsUtf8-string_bytes c.in_ok-name.name) (c.is_session_value.ensures.value.0 (search rules)) before in
     object_held c.put_member.new.members (either_session c.put_member.result _ (put name (view c.args.value) old) old c.put_member.ensures.ok c.put_member.ensures.err after before)
 
 pub returns-clause-ok : goal.returns-clause-ok

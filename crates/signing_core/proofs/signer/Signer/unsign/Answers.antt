@@ -2,7 +2,7 @@ use Rattle.std.proofs.Common.{ℕ, List, refl, subst, sym}
 use Rattle.std.proofs.lemmas.Bool.{iff_false}
 use Rattle.std.specs.List.{Contains}
 use Rattle.signing_core.specs.Signature.{IsSigned, Signing, separator}
-use Rattle.signing_core.proofs.ColonLemmas.{Contains-joined}
+use Rattle.crypto_text.proofs.CutLemmas.{Contains-joined}
 use Rattle.signing_core.proofs.SignatureLemmas.{cut_is_signed, signed_has_colon, signed_is_cut, signed_text_tells_value}
 use Rattle.signing_core.proofs.signer.Signer.unsign.Goals as goal
 
@@ -30,7 +30,7 @@ returns-then-is_signature c =
 pub returns-else-is_signature : goal.returns-else-is_signature
 returns-else-is_signature c =
     let text = c.args.text.now in
-    let separated : Contains text separator = subst (λ l. Contains l separator) (sym c.in-Some.ensures.whole) (Contains-joined _ _) in
+    let separated : Contains text separator = subst (λ l. Contains l separator) (sym c.in-Some.ensures.whole) (Contains-joined separator _ _) in
     let unsigned = λ (value : List ℕ) (signed : IsSigned text value c.args.self.now.prefix c.args.self.now.salt c.args.self.now.keys).
     let there = subst (λ (s : Signing). IsSigned text value s.prefix s.salt s.keys) (sym c.self.view_is) signed in
     iff_false c.is_signature.ensures c.if-is_signature.false (signed_is_cut _ _ _ _ _ _ _ c.in-Some.ensures there).1 in

@@ -1,0 +1,5 @@
+use Rattle.account_views.proofs.LawLemmas.{steps_are_proper}
+use Rattle.account_views.proofs.laws.steps_are_proper.Goals as goal
+
+pub returns : goal.returns
+returns c = steps_are_proper

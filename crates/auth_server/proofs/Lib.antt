@@ -1,4 +1,0 @@
-pub mod MemoryText
-pub mod TranscriptLemmas
-pub mod SettingsLemmas
-pub mod CommandLemmas

@@ -1,0 +1,14 @@
+use Rattle.std.proofs.Common.{◌≡◌, ◌++◌, length, map, flat_map, All}
+use Rattle.httparse.specs.Spans.{IsHeaderWithin, header_bytes}
+use Rattle.http_edge.specs.HeaderFields.{values_of, behind_others}
+use Rattle.http_edge.proofs.header_fields.push_others.Given as goal
+
+abbrev pub invariant-fields : goal.invariant-fields
+invariant-fields l = record {
+  same : l.values.items ++ flat_map behind_others (values_of l.name (map (header_bytes l.head) l.rest))
+      ≡ l.fn.values.items ++ flat_map behind_others (values_of l.name (map (header_bytes l.head) l.fn.fields));
+  within : All (IsHeaderWithin (length l.head)) l.rest;
+}
+
+abbrev pub decreases-fields : goal.decreases-fields
+decreases-fields l = length l.rest

@@ -1,6 +1,0 @@
-use Rattle.std.proofs.Common.{◌≡◌, take}
-use Rattle.permissions.specs.PermissionSet.{is_held, names_of}
-use Rattle.permissions.proofs.permission_set.held_names.Given as goal
-
-abbrev pub invariant-loop-row : goal.invariant-loop-row
-invariant-loop-row l = l.names.keys ≡ names_of (is_held l.own l.user l.groups) (take l.row-index l.perms)

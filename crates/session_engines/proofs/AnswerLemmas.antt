@@ -1,0 +1,58 @@
+-- What a keeper answered, by what its tables hold.
+use Rattle.std.proofs.Common.{◌≡◌, List, [], All, subst, sym, ◌∙◌}
+use Rattle.std.specs.Prelude.{Result, Ok, Err}
+use Rattle.std.proofs.lemmas.List.Elements.{All-nil}
+use Rattle.ledger_rows.specs.Replies.{IsReplyOf}
+use Rattle.ledger_rows.specs.Step.{reply_to, tables_after}
+use Rattle.ledger_rows.specs.Tables.{Tables}
+use Rattle.ledger_rows.specs.declared.operation.Op.{Op}
+use Rattle.ledger_rows.specs.declared.reply.Reply.{Reply}
+use Rattle.ledger_rows.specs.declared.rows.Cfg.{Cfg}
+use Rattle.keepers.specs.declared.change.Change.{Change}
+use Rattle.keepers.specs.declared.keeper.KeeperFault.{KeeperFault}
+use Rattle.keepers.specs.Keeper.{Answers, Contents, IsSoundChange, Kept, OnHolding, Report, Unreported, Fresh, Holding, changed_by}
+use Rattle.session_engines.specs.Taking.{IsAnswer, uncached}
+use Rattle.session_engines.specs.declared.answer.Answer.{Answer}
+
+-- what follows of all contents from a fact follows of those that are reported
+pub on_holding : (report : Report) (P Q : Contents → Type 0) → OnHolding report P → ((contents : Contents) → P contents → Q contents) → OnHolding report Q
+on_holding Unreported P Q p each = tt
+on_holding Fresh P Q p each = tt
+on_holding (Holding contents) P Q p each = each contents p
+
+-- the same of two facts
+pub on_holding_both : (report : Report) (P Q R : Contents → Type 0) → OnHolding report P → OnHolding report Q
+    → ((contents : Contents) → P contents → Q contents → R contents) → OnHolding report R
+on_holding_both Unreported P Q R p q each = tt
+on_holding_both Fresh P Q R p q each = tt
+on_holding_both (Holding contents) P Q R p q each = each contents p q
+
+-- an answer after calls that only read, put together with a fact about the tables
+pub answers_by : {T : Type 0} (kept later : Kept) (result : Result T KeeperFault) (P : Contents → Type 0) (f g : Tables → T)
+    → later ≡ kept → OnHolding kept.report P → ((contents : Contents) → P contents → f contents.tables ≡ g contents.tables)
+    → Answers later result f → Answers kept result g
+answers_by kept later (Ok value) P f g same p each answers =
+    on_holding_both kept.report P (λ contents. value ≡ f contents.tables) (λ contents. value ≡ g contents.tables) p
+    (subst (λ (k : Kept). OnHolding k.report (λ contents. value ≡ f contents.tables)) same answers) (λ contents q is. is ∙ each contents q)
+answers_by kept later (Err fault) P f g same p each answers = tt
+
+-- what is so of all contents is so of those that are reported
+pub on_any : (report : Report) (P : Contents → Type 0) → ((contents : Contents) → P contents) → OnHolding report P
+on_any Unreported P each = tt
+on_any Fresh P each = tt
+on_any (Holding contents) P each = each contents
+
+-- an operation that changes nothing
+pub unchanged-answer : (cfg : Cfg) (op : Op) (kept : Kept) (answer : Answer) (reply : Reply) → answer.reply ≡ reply → answer.changes.items ≡ []
+    → IsReplyOf op reply → OnHolding kept.report (λ contents. reply ≡ reply_to cfg op (uncached contents.tables))
+    → ((tables : Tables) → tables ≡ tables_after cfg.engine op tables) → IsAnswer cfg op kept answer
+unchanged-answer cfg op kept answer reply reply_is none kind value stays = record {
+  reply = record {
+    kind = subst (λ (r : Reply). IsReplyOf op r) (sym reply_is) kind;
+    value = subst (λ (r : Reply). OnHolding kept.report (λ contents. r ≡ reply_to cfg op (uncached contents.tables))) (sym reply_is) value;
+  };
+  changes =
+      on_any kept.report (λ contents. changed_by answer.changes.items contents.tables ≡ tables_after cfg.engine op contents.tables)
+      (λ contents. subst (λ (changes : List Change). changed_by changes contents.tables ≡ tables_after cfg.engine op contents.tables) (sym none) (stays contents.tables));
+  sound = subst (λ (changes : List Change). All IsSoundChange changes) (sym none) (All-nil IsSoundChange);
+}

@@ -1,5 +1,0 @@
-use Rattle.std.proofs.Common.{◌≡◌, ℕ, ◌<◌, get_or}
-use Rattle.site_file.proofs.row_ids.is_present.Given as goal
-
-abbrev pub invariant-loop-known : goal.invariant-loop-known
-invariant-loop-known l = (k : ℕ) → k < l.known-index → get_or l.present k l.id ≡ l.id → ⊥

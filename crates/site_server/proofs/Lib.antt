@@ -1,0 +1,9 @@
+mod CommandLemmas
+mod DriveLemmas
+mod PageLemmas
+mod RoundLemmas
+mod ServeLemmas
+mod SettingsLemmas
+mod StartLemmas
+mod TagLemmas
+mod TranscriptLemmas
