@@ -30,6 +30,10 @@ pub record Kept : Type 0 where
   -- how many calls have failed
   pub faults : ℕ
 
+-- what is seen of a new store that was never called and reports itself
+abbrev pub unused : Kept
+unused = record { report = Fresh; entry_count = 0; faults = 0 }
+
 -- a fact about what is held, where that is reported
 abbrev pub OnHolding : Report → (Contents → Type 0) → Type 0
 OnHolding Unreported P = ⊤

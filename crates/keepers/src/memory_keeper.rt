@@ -6,7 +6,7 @@ ghost use Rattle.ledger_rows.specs.History.{entry_at};
 ghost use Rattle.ledger_rows.specs.Opening.{IsOpening};
 ghost use Rattle.ledger_rows.specs.Rows.{IsNumber, IsSoundSession, IsSoundUser};
 ghost use Rattle.ledger_rows.specs.Tables.{opening_tables, session_of, user_of};
-ghost use Rattle.keepers.specs.Keeper.{Answers, Commits, Installs, IsSoundChange, MayBeFresh, MayHold, OnHolding, OnlyReads, changed_by};
+ghost use Rattle.keepers.specs.Keeper.{Answers, Commits, Installs, IsSoundChange, MayBeFresh, MayHold, OnHolding, OnlyReads, changed_by, unused};
 ghost use Rattle.keepers.specs.MemoryKeeper.{HasCalled, entry_count_of, kept_of, report_of};
 
 use crate::change::Change;
@@ -60,7 +60,8 @@ impl Model for MemKeeper {
 impl MemKeeper {
     /// A new keeper. A call fails where its number is in `fail_at`.
     pub fn new(_alloc: Global, fail_at: Ids) -> MemKeeper
-        ensures { result ≡ record { store = None; fail_at = fail_at; number = 0; faults = 0 } }
+        ensures value { result ≡ record { store = None; fail_at = fail_at; number = 0; faults = 0 } }
+        ensures seen { ⟦<MemKeeper as Keeper>⟧.seen result ≡ unused }
     {
         MemKeeper {
             store: None,

@@ -1,6 +1,7 @@
 -- What the grammar of password texts is good for.
-use Rattle.std.specs.Prelude.{◌≡◌, ◌<◌, ◌++◌, ℕ, List, Contains, length, slice_index}
+use Rattle.std.specs.Prelude.{◌≡◌, ◌<◌, ◌≤◌, ◌^◌, ◌++◌, ℕ, List, All, Contains, length, slice_index}
 use Rattle.std.specs.Int.{IsInRange}
+use Rattle.crypto_text.specs.Alphabet.{letters62, random_text}
 use Rattle.pass_hashers.specs.PasswordText.{HasParts, IsPasswordText, IsSalt, IsUsable, Verifies, algo_of, password_text}
 use Rattle.pass_hashers.specs.declared.hasher.Algo.{Algo}
 use Rattle.pass_hashers.specs.declared.hasher.Hasher.{Hasher}
@@ -23,3 +24,7 @@ TextShowsItsEnd = (first second behind after : List ℕ) → IsPasswordText firs
 -- a password text has a first byte, which is no digit
 abbrev pub TextBeginsWithNoDigit : Type 0
 TextBeginsWithNoDigit = (text : List ℕ) → IsPasswordText text → (0 < length text) × ¬ IsInRange 48 57 (slice_index text 0)
+
+-- 1 to 64 letters that random words pick are a salt
+abbrev pub RandomLettersAreSalt : Type 0
+RandomLettersAreSalt = (words : List ℕ) → 1 ≤ length words → length words ≤ 64 → All (λ word. word < 2 ^ 32) words → IsSalt (random_text letters62 words)

@@ -1,7 +1,7 @@
 //! Laws about password texts. A law is a function that does nothing: its clause is the law, so the
 //! check of the crate proves it.
 
-ghost use Rattle.pass_hashers.specs.Laws.{MadeTextVerifies, PartsAreUnique, TextBeginsWithNoDigit, TextShowsItsEnd};
+ghost use Rattle.pass_hashers.specs.Laws.{MadeTextVerifies, PartsAreUnique, RandomLettersAreSalt, TextBeginsWithNoDigit, TextShowsItsEnd};
 
 /// A text has one hasher, one salt and one digest.
 pub fn parts_are_unique()
@@ -21,4 +21,9 @@ pub fn text_shows_its_end()
 /// A password text can stand behind a number.
 pub fn text_begins_with_no_digit()
     ensures { TextBeginsWithNoDigit }
+{}
+
+/// A salt may be made of random words, as Django's `BasePasswordHasher.salt` is.
+pub fn random_letters_are_salt()
+    ensures { RandomLettersAreSalt }
 {}

@@ -9,6 +9,9 @@ const SIGNED: &str = "hello:1r31eq:AVAtfaYhtx4neSXPn97di7T9b6_HFATrpRGucfJRI-I";
 /// `SIGNED`, but for a bit of its last character that no byte of the signature has.
 const CHANGED: &str = "hello:1r31eq:AVAtfaYhtx4neSXPn97di7T9b6_HFATrpRGucfJRI-J";
 
+/// The same value, signed without a time, by Django's `Signer`.
+const UNTIMED: &str = "hello:_sAtnmbsgVbNqAqL16_rjy7G7nCSHZknownZelWLg5Y";
+
 #[test]
 fn a_value_is_signed_with_the_time(rt: HostRuntime) -> Result<(), Fail> {
     let alloc = rt.alloc();
@@ -32,7 +35,7 @@ struct Unsigned {
     line: &'static str,
 }
 
-fn unsigned_texts() -> [Unsigned; 8] {
+fn unsigned_texts() -> [Unsigned; 9] {
     let current = Unsigned {
         max_age: "10",
         text: SIGNED,
@@ -65,6 +68,11 @@ fn unsigned_texts() -> [Unsigned; 8] {
         Unsigned {
             text: CHANGED,
             line: "refused=bad-signature\n",
+            ..refused
+        },
+        Unsigned {
+            text: UNTIMED,
+            line: "refused=bad-time\n",
             ..refused
         },
         Unsigned {
