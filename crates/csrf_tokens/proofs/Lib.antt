@@ -1,0 +1,9 @@
+pub mod HostGrammarLemmas
+pub mod HostLemmas
+pub mod LetterLemmas
+pub mod MarkLemmas
+pub mod SecretLemmas
+pub mod TestLemmas
+pub mod TokenLemmas
+pub mod UrlGrammarLemmas
+pub mod VerdictLemmas

@@ -1,0 +1,10 @@
+pub mod Form
+pub mod HostGrammar
+pub mod Hosts
+pub mod Laws
+pub mod Letters
+pub mod Marks
+pub mod Tokens
+pub mod UrlGrammar
+pub mod Urls
+pub mod Verdict
