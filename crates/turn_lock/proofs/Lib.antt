@@ -1,0 +1,12 @@
+pub mod Values
+pub mod ListLemmas
+pub mod ViewLemmas
+pub mod SeatNumbers
+pub mod RuleLemmas
+pub mod TicketSteps
+pub mod TurnSteps
+pub mod FaultSteps
+pub mod SeatSteps
+pub mod FlagSteps
+pub mod OpenAndClose
+pub mod TurnLemmas

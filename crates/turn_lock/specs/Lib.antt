@@ -1,0 +1,11 @@
+pub mod Meanings
+pub mod Log
+pub mod Count
+pub mod Seats
+pub mod Views
+pub mod TurnRule
+pub mod Steps
+pub mod Turn
+pub mod Close
+pub mod Known
+pub mod Laws
