@@ -1,5 +1,5 @@
 -- An entry by its index, as the list of the audit list's entries has it.
-use Rattle.std.proofs.Common.{◌≡◌, ◌<◌, ◌≤◌, ℕ, zero, suc, List, [], ◌∷◌, Some, None, get_or, length, refl, ap, sym, ◌∙◌, arith}
+use Rattle.std.proofs.Common.{◌≡◌, ◌<◌, ◌≤◌, ℕ, zero, suc, List, [], ◌∷◌, Some, None, get_or, length, refl, arith}
 use Rattle.ledger_rows.specs.History.{entry_at}
 use Rattle.ledger_rows.specs.declared.entry.Entry.{Entry}
 

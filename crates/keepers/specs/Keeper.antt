@@ -1,12 +1,13 @@
 -- What a keeper of the store reports of itself, and what its calls do to that.
-use Rattle.std.specs.Prelude.{◌≡◌, ◌≢◌, ◌<◌, ◌^◌, ◌+◌, ℕ, List, [], ◌∷◌, ◌++◌, fold, length, Option, Result, Ok, Err, IfOk, OnOk, IfErr, ⊤}
+use Rattle.std.specs.Prelude.{◌≡◌, ◌≢◌, ◌+◌, ℕ, List, [], ◌∷◌, ◌++◌, fold, length, Result, Ok, Err, IfOk, ⊤}
 use Rattle.outside.specs.Faults.{Rose}
-use Rattle.ledger_rows.specs.Tables.{Tables, opening_tables}
-use Rattle.ledger_rows.specs.Rows.{IsNumber}
+use Rattle.ledger_rows.specs.Tables.{Tables, opening_tables, put_session, without_session}
+use Rattle.ledger_rows.specs.SessionSteps.{without_expired}
+use Rattle.ledger_rows.specs.Rows.{IsNumber, IsSoundSession}
 use Rattle.ledger_rows.specs.declared.entry.Entry.{Entry}
 use Rattle.ledger_rows.specs.declared.rows.Opening.{Opening}
 use Rattle.keepers.specs.declared.change.Change.{Change}
-use Rattle.keepers.specs.declared.change.Change.TheVariants.{PutBoot}
+use Rattle.keepers.specs.declared.change.Change.TheVariants.{DropExpired, DropSession, PutBoot, PutKeys, PutSession}
 use Rattle.keepers.specs.declared.keeper.KeeperFault.{KeeperFault}
 use Rattle.keepers.specs.declared.keeper.KeeperFault.TheVariants.{Failed, Memory}
 
@@ -93,6 +94,10 @@ Installs opening old new (Err fault) = IsRefused old new fault
 
 -- the tables with one change
 abbrev pub changed : Tables → Change → Tables
+changed tables (PutSession row) = record tables { sessions = put_session tables.sessions row }
+changed tables (DropSession key) = record tables { sessions = without_session tables.sessions key }
+changed tables (DropExpired now) = record tables { sessions = without_expired tables.sessions now }
+changed tables (PutKeys keys) = record tables { keys = keys }
 changed tables (PutBoot boot) = record tables { boot = boot }
 
 -- the tables with all changes, made in order
@@ -118,4 +123,8 @@ Commits entry changes old new (Err fault) = IsRefused old new fault
 
 -- a change whose row and numbers are sound
 abbrev pub IsSoundChange : Change → Type 0
+IsSoundChange (PutSession row) = IsSoundSession row
+IsSoundChange (DropSession key) = ⊤
+IsSoundChange (DropExpired now) = ⊤
+IsSoundChange (PutKeys keys) = ⊤
 IsSoundChange (PutBoot boot) = IsNumber boot

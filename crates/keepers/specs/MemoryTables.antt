@@ -1,16 +1,21 @@
--- What the tables of a keeper in memory are seen as.
+-- What the tables of a keeper in memory are seen as, and whether rows can be put in without memory.
+use Rattle.std.specs.Prelude.{◌+◌, ◌≤◌, ℕ, vec_capacity, vec_len}
 use Rattle.ledger_rows.specs.Tables.{Tables}
-use Rattle.keepers.specs.declared.memory_tables.MemTables.TheInside.{Inside}
+use Rattle.keepers.specs.declared.memory_tables.Rows.{Rows}
 
-abbrev pub tables_of : Inside → Tables
-tables_of tables = record {
-  keys = tables.keys;
-  users = tables.users.items;
-  groups = tables.groups;
-  perms = tables.perms;
-  sessions = tables.sessions.items;
-  mails = tables.mails.items;
-  boot = tables.boot;
-  next_user = tables.next_user;
-  next_mail = tables.next_mail;
+abbrev pub tables_of : Rows → Tables
+tables_of rows = record {
+  keys = rows.keys;
+  users = rows.users.items;
+  groups = rows.groups;
+  perms = rows.perms;
+  sessions = rows.sessions.items;
+  mails = rows.mails.items;
+  boot = rows.boot;
+  next_user = rows.next_user;
+  next_mail = rows.next_mail;
 }
+
+-- there is room for so many rows more
+pub record HasRoomFor (rows : Rows) (more : ℕ) : Type 0 where
+  pub sessions : vec_len rows.sessions + more ≤ vec_capacity rows.sessions

@@ -4,6 +4,7 @@ ghost use Rattle.std.specs.Prelude.{◌≡◌, ◌≤◌, ◌<◌, ◌^◌, ◌�
 ghost use Rattle.ledger_rows.specs.History.{entry_at};
 ghost use Rattle.ledger_rows.specs.Opening.{IsOpening};
 ghost use Rattle.ledger_rows.specs.Rows.{IsNumber, IsSoundSession, IsSoundUser};
+ghost use Rattle.ledger_rows.specs.SessionSteps.{count_expired};
 ghost use Rattle.ledger_rows.specs.Tables.{session_of, user_of};
 ghost use Rattle.keepers.specs.Keeper.{Answers, Commits, Installs, IsCounted, IsSoundChange, Kept, MayBeFresh, MayHold, OnHolding, OnlyReads};
 
@@ -79,6 +80,12 @@ pub trait Keeper: Drop {
         ensures value { Answers (seen self.old) result (λ tables. session_of tables.sessions key.now) }
         ensures asked { IfOk result (λ row. IfSome row (λ session. session.key ≡ key.now)) }
         ensures sound { IfOk result (λ row. IfSome row IsSoundSession) }
+        ensures reads { OnlyReads (seen self.old) (seen self.new) result };
+
+    /// How many sessions were over before a moment.
+    fn count_expired(&mut self, now: u64) -> Result<u64, KeeperFault>
+        requires { MayHold (seen self.old).report }
+        ensures value { Answers (seen self.old) result (λ tables. count_expired tables.sessions now) }
         ensures reads { OnlyReads (seen self.old) (seen self.new) result };
 
     /// The entry of the audit list at an index, counted from 0.

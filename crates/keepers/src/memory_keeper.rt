@@ -5,6 +5,7 @@ ghost use Rattle.outside.specs.Faults.{one_more};
 ghost use Rattle.ledger_rows.specs.History.{entry_at};
 ghost use Rattle.ledger_rows.specs.Opening.{IsOpening};
 ghost use Rattle.ledger_rows.specs.Rows.{IsNumber, IsSoundSession, IsSoundUser};
+ghost use Rattle.ledger_rows.specs.SessionSteps.{count_expired};
 ghost use Rattle.ledger_rows.specs.Tables.{opening_tables, session_of, user_of};
 ghost use Rattle.keepers.specs.Keeper.{Answers, Commits, Installs, IsSoundChange, MayBeFresh, MayHold, OnHolding, OnlyReads, changed_by, unused};
 ghost use Rattle.keepers.specs.MemoryKeeper.{HasCalled, entry_count_of, kept_of, report_of};
@@ -16,6 +17,7 @@ use crypto_text::Ids;
 use ledger_rows::{Entry, Opening, SessionRow, UserRow};
 use signing_core::Keys;
 use std::alloc::{AllocError, Global};
+use std::collections::VecDeque;
 use std::marker::Model;
 
 /// Tables and audit list in memory. The calls that can fail are numbered from 0, and chosen ones fail.
@@ -121,14 +123,17 @@ impl Store {
     }
 
     // The room for the entry comes first, so that a refusal changes nothing.
-    fn commit(&mut self, entry: Entry, changes: &[Change]) -> Result<(), AllocError>
-        requires { All IsSoundChange changes.now }
-        ensures ok { OnOk result (contents_of self.new ≡ appended entry changes.now (contents_of self.old)) }
+    fn commit(&mut self, entry: Entry, changes: VecDeque<Change>) -> Result<(), AllocError>
+        requires { All IsSoundChange changes.items }
+        ensures ok { OnOk result (contents_of self.new ≡ appended entry changes.items (contents_of self.old)) }
         ensures err { OnErr result (contents_of self.new ≡ contents_of self.old) }
     {
-        self.entries.push(entry)?;
-        self.tables.change(changes);
-        Ok(())
+        self.entries.reserve(1)?;
+        self.tables.change(changes)?;
+        match self.entries.push(entry) {
+            Ok(()) => Ok(()),
+            Err(_) => unreachable!(),
+        }
     }
 }
 
@@ -217,6 +222,19 @@ impl Keeper for MemKeeper {
         }
     }
 
+    fn count_expired(&mut self, now: u64) -> Result<u64, KeeperFault>
+        requires { MayHold (kept_of self.old).report }
+        ensures value { Answers (kept_of self.old) result (λ tables. count_expired tables.sessions now) }
+        ensures reads { OnlyReads (kept_of self.old) (kept_of self.new) result }
+        ensures call { HasCalled self.old self.new result }
+    {
+        self.calls.pass()?;
+        match &self.store {
+            Some(store) => Ok(store.tables.count_expired(now)),
+            None => unreachable!(),
+        }
+    }
+
     fn entry_at(&mut self, alloc: Global, index: u64) -> Result<Option<Entry>, KeeperFault>
         requires { MayHold (kept_of self.old).report }
         ensures value { IfOk result (λ entry. OnHolding (kept_of self.old).report (λ contents. entry ≡ entry_at contents.entries index)) }
@@ -245,6 +263,7 @@ impl Keeper for MemKeeper {
     {
         self.calls.pass()?;
         let entry = entry.copy(alloc)?;
+        let changes = copies_of(alloc, changes)?;
         match &mut self.store {
             Some(store) => Ok(store.commit(entry, changes)?),
             None => unreachable!(),
@@ -272,4 +291,14 @@ fn copy_at(alloc: Global, entries: &[Entry], index: u64) -> Result<Option<Entry>
     }
     let entry = entries[index as usize].copy(alloc)?;
     Ok(Some(entry))
+}
+
+fn copies_of(alloc: Global, changes: &[Change]) -> Result<VecDeque<Change>, AllocError>
+    ensures { IfOk result (λ copies. copies.items ≡ changes.now) }
+{
+    let mut copies = VecDeque::new(alloc);
+    for change in changes {
+        copies.push_back(change.copy(alloc)?)?;
+    }
+    Ok(copies)
 }

@@ -1,10 +1,12 @@
 //! Tables in memory, each a vector in the order of its keys.
 
-ghost use Rattle.std.specs.Prelude.{◌≡◌, ◌≤◌, ◌<◌, ◌+◌, All, IfErr, IfOk, IfSome, OnErr, OnOk, insert, length, option_map, slice_set};
+ghost use Rattle.std.specs.Prelude.{◌≡◌, ◌≤◌, ◌<◌, ◌+◌, ℕ, suc, vec_len, vec_capacity, All, IfErr, IfOk, IfSome, OnErr, OnOk, insert, length, option_map, slice_set};
 ghost use Rattle.ledger_rows.specs.Opening.{IsOpening};
 ghost use Rattle.ledger_rows.specs.Rows.{IsNumber, IsSoundSession, IsSoundUser};
-ghost use Rattle.ledger_rows.specs.Tables.{greatest_id, opening_tables, put_session, session_of, sorted_sessions, user_of};
+ghost use Rattle.ledger_rows.specs.SessionSteps.{count_expired, without_expired};
+ghost use Rattle.ledger_rows.specs.Tables.{greatest_id, opening_tables, put_session, session_of, sorted_sessions, user_of, without_session};
 ghost use Rattle.keepers.specs.Keeper.{IsSoundChange, changed, changed_by};
+ghost use Rattle.keepers.specs.MemoryTables.{HasRoomFor, tables_of};
 
 use crate::change::Change;
 use ledger_rows::{MailRow, Opening, RowList, SessionRow, UserRow};
@@ -12,11 +14,18 @@ use permissions::{GroupRow, PermRow};
 use signing_core::Keys;
 use std::alloc::{AllocError, Global};
 use std::cmp::Ordering;
+use std::collections::VecDeque;
 use std::marker::Model;
 
 /// The rows are sound, and stay so.
 #[derive(Drop)]
 pub struct MemTables {
+    rows: Rows,
+}
+
+/// What the tables hold.
+#[derive(Drop)]
+struct Rows {
     keys: Keys,
     users: Vec<UserRow>,
     groups: RowList<GroupRow>,
@@ -36,9 +45,9 @@ impl Model for MemTables {
 
     ghost use Rattle.keepers.specs.MemoryTables.{tables_of};
 
-    ghost view = { tables_of };
+    ghost view = { λ t. tables_of t.rows };
 
-    ghost invariant = { λ t. AreSound (tables_of t) };
+    ghost invariant = { λ t. AreSound (tables_of t.rows) };
 }
 
 impl MemTables {
@@ -48,7 +57,7 @@ impl MemTables {
         ensures { IfOk result (λ tables. tables ≡ opening_tables opening.now) }
     {
         let next_user = next_id(opening.users.items());
-        Ok(MemTables {
+        let rows = Rows {
             keys: opening.keys.copy(alloc)?,
             users: opening.users.copy(alloc)?.into_vec(),
             groups: opening.groups.copy(alloc)?,
@@ -58,7 +67,8 @@ impl MemTables {
             boot: 0,
             next_user,
             next_mail: 1,
-        })
+        };
+        Ok(MemTables { rows })
     }
 
     /// How many starts there were.
@@ -66,13 +76,13 @@ impl MemTables {
         ensures value { result ≡ self.now.boot }
         ensures sound { IsNumber result }
     {
-        self.boot
+        self.rows.boot
     }
 
     pub fn keys(&self) -> &Keys
         ensures { result.now ≡ self.now.keys }
     {
-        &self.keys
+        &self.rows.keys
     }
 
     pub fn user_by_id(&self, alloc: Global, id: u64) -> Result<Option<UserRow>, AllocError>
@@ -80,7 +90,7 @@ impl MemTables {
         ensures asked { IfOk result (λ row. IfSome row (λ user. user.id ≡ id)) }
         ensures sound { IfOk result (λ row. IfSome row IsSoundUser) }
     {
-        match found_user(self.users.as_slice(), id) {
+        match found_user(self.rows.users.as_slice(), id) {
             Some(user) => Ok(Some(user.copy(alloc)?)),
             None => Ok(None),
         }
@@ -91,28 +101,55 @@ impl MemTables {
         ensures asked { IfOk result (λ row. IfSome row (λ session. session.key ≡ key.now)) }
         ensures sound { IfOk result (λ row. IfSome row IsSoundSession) }
     {
-        match found_session(self.sessions.as_slice(), key) {
+        match found_session(self.rows.sessions.as_slice(), key) {
             Some(session) => Ok(Some(session.copy(alloc)?)),
             None => Ok(None),
         }
     }
 
-    /// Makes the changes in order.
-    pub fn change(&mut self, changes: &[Change])
-        requires { All IsSoundChange changes.now }
-        ensures { self.new ≡ changed_by changes.now self.old }
+    /// How many sessions were over before a moment.
+    pub fn count_expired(&self, now: u64) -> u64
+        ensures { result ≡ count_expired self.now.sessions now }
     {
-        for change in changes {
+        let over = self.rows.sessions.iter().filter(|row| row.expire < now);
+        over.count() as u64
+    }
+
+    /// Makes the changes in order, or none.
+    pub fn change(&mut self, changes: VecDeque<Change>) -> Result<(), AllocError>
+        requires { All IsSoundChange changes.items }
+        ensures ok { OnOk result (self.new ≡ changed_by changes.items self.old) }
+        ensures err { OnErr result (self.new ≡ self.old) }
+    {
+        self.rows.sessions.reserve(changes.len())?;
+        self.rows.change_all(changes);
+        Ok(())
+    }
+}
+
+impl Rows {
+    // There is room for the rows that are put in.
+    fn change_all(&mut self, changes: VecDeque<Change>)
+        requires { HasRoomFor self.old (length changes.items) }
+        ensures { tables_of self.new ≡ changed_by changes.items (tables_of self.old) }
+    {
+        let mut changes = changes;
+        while let Some(change) = changes.pop_front() {
             self.change_one(change);
         }
     }
 
-    fn change_one(&mut self, change: &Change)
-        requires { IsSoundChange change.now }
-        ensures { self.new ≡ changed self.old change.now }
+    fn change_one(&mut self, change: Change)
+        requires { HasRoomFor self.old 1 }
+        ensures tables { tables_of self.new ≡ changed (tables_of self.old) change }
+        ensures room { (more : ℕ) → HasRoomFor self.old (suc more) → HasRoomFor self.new more }
     {
         match change {
-            Change::PutBoot(boot) => self.boot = *boot,
+            Change::PutSession(row) => put_session(&mut self.sessions, row),
+            Change::DropSession(key) => drop_session(&mut self.sessions, key.as_str()),
+            Change::DropExpired(now) => drop_expired(&mut self.sessions, now),
+            Change::PutKeys(keys) => self.keys = keys,
+            Change::PutBoot(boot) => self.boot = boot,
         }
     }
 }
@@ -162,20 +199,43 @@ fn sorted_sessions(alloc: Global, rows: &[SessionRow]) -> Result<Vec<SessionRow>
 {
     let mut sessions = Vec::new(alloc);
     for row in rows {
-        put_session(&mut sessions, row.copy(alloc)?)?;
+        let row = row.copy(alloc)?;
+        sessions.reserve(1)?;
+        put_session(&mut sessions, row);
     }
     Ok(sessions)
 }
 
-fn put_session(sessions: &mut Vec<SessionRow>, row: SessionRow) -> Result<(), AllocError>
-    ensures ok { OnOk result (sessions.new.items ≡ put_session sessions.old.items row) }
-    ensures err { OnErr result (sessions.new.items ≡ sessions.old.items) }
+fn put_session(sessions: &mut Vec<SessionRow>, row: SessionRow)
+    requires { vec_len sessions.old < vec_capacity sessions.old }
+    ensures value { sessions.new.items ≡ put_session sessions.old.items row }
+    ensures len { vec_len sessions.new ≤ vec_len sessions.old + 1 }
+    ensures capacity { vec_capacity sessions.new ≡ vec_capacity sessions.old }
 {
     match place_of_session(sessions.as_slice(), &row) {
         Ok(index) => sessions[index] = row,
-        Err(index) => sessions.insert(index, row)?,
+        Err(index) => {
+            if sessions.insert(index, row).is_err() {
+                unreachable!()
+            }
+        }
     }
-    Ok(())
+}
+
+fn drop_session(sessions: &mut Vec<SessionRow>, key: &str)
+    ensures value { sessions.new.items ≡ without_session sessions.old.items key.now }
+    ensures len { vec_len sessions.new ≤ vec_len sessions.old }
+    ensures capacity { vec_capacity sessions.new ≡ vec_capacity sessions.old }
+{
+    sessions.retain(|row| row.key.as_str() != key);
+}
+
+fn drop_expired(sessions: &mut Vec<SessionRow>, now: u64)
+    ensures value { sessions.new.items ≡ without_expired sessions.old.items now }
+    ensures len { vec_len sessions.new ≤ vec_len sessions.old }
+    ensures capacity { vec_capacity sessions.new ≡ vec_capacity sessions.old }
+{
+    sessions.retain(|row| row.expire >= now);
 }
 
 // The index of the session of this row's key, or the one at which it is to be put in.

@@ -1,4 +1,6 @@
 pub mod HistoryLemmas
+pub mod KeyLemmas
+pub mod PayloadLemmas
 pub mod TableLemmas
 pub mod OpeningLemmas
 pub mod AdmissionLemmas

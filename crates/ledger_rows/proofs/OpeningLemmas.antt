@@ -1,12 +1,11 @@
 -- The rows that a new store begins with are sound.
-use Rattle.std.proofs.Common.{◌≡◌, ◌<◌, ◌≤◌, ◌^◌, ℕ, List, [], ◌∷◌, Option, None, Some, All, Contains, map, sym, subst, arith}
+use Rattle.std.proofs.Common.{ℕ, List, [], ◌∷◌, All, map, sym, subst, arith}
 use Rattle.std.proofs.lemmas.List.Elements.{All-cons, All-contains, All-head, All-nil, All-tail, All-weaker}
 use Rattle.permissions.specs.declared.rows.GroupRow.{GroupRow}
 use Rattle.permissions.specs.declared.rows.PermRow.{PermRow}
 use Rattle.ledger_rows.specs.Laws.{OpeningRowsAreSound}
-use Rattle.ledger_rows.specs.Opening.{AreIdsAmong, AreRowIds, IsId, IsIdAmong, IsOpening, IsOpeningGroup, IsOpeningPerm, IsOpeningSession, IsOpeningUser, ids_of_groups, ids_of_perms}
+use Rattle.ledger_rows.specs.Opening.{AreIdsAmong, AreRowIds, IsId, IsIdAmong, IsOpeningGroup, IsOpeningPerm, IsOpeningSession, IsOpeningUser, ids_of_groups, ids_of_perms}
 use Rattle.ledger_rows.specs.Rows.{IsLastLogin, IsNumber, IsSoundGroup, IsSoundMail, IsSoundPerm, IsSoundSession, IsSoundUser}
-use Rattle.ledger_rows.specs.declared.rows.SessionRow.{SessionRow}
 use Rattle.ledger_rows.specs.declared.rows.UserRow.{UserRow}
 use Rattle.ledger_rows.proofs.TableLemmas.{All-sorted_sessions}
 

@@ -1,5 +1,5 @@
 -- Tables: what holds of all rows of a table, and of a row that is put into it, holds of all rows after that.
-use Rattle.std.proofs.Common.{◌≡◌, ◌==◌, ℕ, not, List, [], ◌∷◌, Ordering, Less, Equal, Greater, All, bytes_eq, filter, fold, arith}
+use Rattle.std.proofs.Common.{◌==◌, ℕ, not, List, [], ◌∷◌, Ordering, Less, Equal, Greater, All, bytes_eq, fold}
 use Rattle.std.specs.Cmp.Lexicographic.{slice_cmp}
 use Rattle.std.specs.Ordering.{match_ordering, nat_cmp}
 use Rattle.std.proofs.lemmas.List.Elements.{All-cons, All-filter, All-head, All-nil, All-tail}

@@ -5,8 +5,10 @@ pub mod Backends
 pub mod Admission
 pub mod Form
 pub mod Rows
-pub mod Step
 pub mod Replies
+pub mod SessionSteps
+pub mod KeySteps
+pub mod Step
 pub mod Opening
 pub mod History
 pub mod Laws

@@ -26,7 +26,7 @@ pub struct Judgement {
     pub user: Option<UserRead>,
 }
 
-/// The hash that a session of a user keeps, as Django's `get_session_auth_hash`: it tells the password
+/// The hash that a session of a user keeps, as Django's `get_session_auth_hash`: it is made of the password
 /// text and the key, so that it admits nobody once one of them is gone. Takes no memory.
 #[tactic(auto, unfolding(crate::specs::Admission::auth_hash, crate::specs::Admission::session_auth_salt))]
 pub fn session_auth_hash(password: &str, key: &[u8]) -> [u8; 64]

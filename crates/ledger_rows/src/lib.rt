@@ -13,6 +13,7 @@ mod rows;
 #[cfg(test)]
 mod tests;
 mod verdict;
+mod well_formed;
 
 pub use crate::admission::{Judgement, admit, judge, session_auth_hash, session_auth_text};
 pub use crate::entry::{Entry, Tag};
@@ -22,3 +23,4 @@ pub use crate::reply::{Reply, UserRead};
 pub use crate::row_list::{Row, RowList};
 pub use crate::rows::{Backend, Cfg, Engine, MailRow, Opening, SessionRow, UserRow};
 pub use crate::verdict::Verdict;
+pub use crate::well_formed::op_ok;

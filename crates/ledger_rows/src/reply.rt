@@ -27,4 +27,22 @@ pub enum Reply {
         payload: Text,
         user: Option<UserRead>,
     },
+    /// To `Create` and `Cycle`: there is a session of the new key.
+    Taken,
+    /// To `Save` and `Cycle`: there is no session of the key.
+    Gone,
+    /// To `Create`, `Save` and `Cycle`: the session was written; its cookie is the key.
+    Stored {
+        cookie: Text,
+    },
+    /// To `Delete`, `RotateKey` and `RetireKeys`.
+    Done,
+    /// To `ClearExpired`: how many sessions were removed.
+    Cleared {
+        count: u64,
+    },
+    /// To `RotateKey`: the key is among the keys.
+    KeyHeld,
+    /// To `RotateKey`: there are 16 keys.
+    TooManyKeys,
 }

@@ -8,21 +8,90 @@ use std::test::Fail;
 #[test]
 fn an_entry_is_copied_whole(rt: HostRuntime) -> Result<(), Fail> {
     let alloc = rt.alloc();
-    let tag = Tag {
-        boot: 2,
-        worker: 1,
-        request: 7,
-        step: 3,
-    };
-    let op = Op::Load {
-        cookie: Some(Text::of(alloc, "s1s1s1s1s1s1s1s1s1s1s1s1s1s1s1s1")?),
-        now: 1_700_000_000,
-    };
-    let entry = Entry { tag, op };
-    assert!(rt; entry.copy(alloc)? == entry);
-    let start = Entry { tag, op: Op::Boot };
-    assert!(rt; start.copy(alloc)? == start);
+    for case in 0..9 {
+        let entry = Entry {
+            tag: Tag {
+                boot: 2,
+                worker: 1,
+                request: 7,
+                step: 3,
+            },
+            op: operation(alloc, case)?,
+        };
+        assert!(rt; entry.copy(alloc)? == entry, "operation {case}");
+        assert!(rt; op_ok(alloc, &entry.op)?, "operation {case}");
+    }
     Ok(())
+}
+
+fn operation(alloc: Global, case: usize) -> Result<Op, AllocError> {
+    match case {
+        0 => Ok(Op::Boot),
+        1 => Ok(Op::Load {
+            cookie: Some(Text::of(alloc, KEY)?),
+            now: NOW,
+        }),
+        2 => create(alloc, KEY, "{\"a\":1}", 5, NOW),
+        3 => Ok(Op::Save {
+            key: Text::of(alloc, "any")?,
+            payload: Text::of(alloc, "{}")?,
+            seconds: 5,
+            now: NOW,
+        }),
+        4 => Ok(Op::Cycle {
+            old: Text::of(alloc, "any")?,
+            key: Text::of(alloc, KEY)?,
+            payload: Text::of(alloc, "{}")?,
+            seconds: 5,
+            now: NOW,
+        }),
+        5 => Ok(Op::Delete {
+            key: Text::of(alloc, "any")?,
+        }),
+        6 => Ok(Op::ClearExpired { now: NOW }),
+        7 => Ok(Op::RotateKey {
+            key: Bytes::of(alloc, b"k1")?,
+        }),
+        _ => Ok(Op::RetireKeys),
+    }
+}
+
+#[test]
+fn operations_are_well_formed(rt: HostRuntime) -> Result<(), Fail> {
+    let alloc = rt.alloc();
+    for (key, payload, seconds, now, may) in [
+        (KEY, "{\"a\":1}", 3_153_600_000, 250_000_000_000, true),
+        ("S1", "{}", 5, NOW, false),
+        (KEY, "[]", 5, NOW, false),
+        (KEY, "{ }", 5, NOW, false),
+        (KEY, "{}", 0, NOW, false),
+        (KEY, "{}", 3_153_600_001, NOW, false),
+        (KEY, "{}", 5, 999_999_999, false),
+        (KEY, "{}", 5, 250_000_000_001, false),
+    ] {
+        let op = create(alloc, key, payload, seconds, now)?;
+        assert_eq!(rt; op_ok(alloc, &op)?, may, "{key} {payload}");
+    }
+    Ok(())
+}
+
+const KEY: &str = "s1s1s1s1s1s1s1s1s1s1s1s1s1s1s1s1";
+
+const NOW: u64 = 1_700_000_000;
+
+fn create(
+    alloc: Global,
+    key: &str,
+    payload: &str,
+    seconds: u64,
+    now: u64,
+) -> Result<Op, AllocError> {
+    Ok(Op::Create {
+        key: Text::of(alloc, key)?,
+        payload: Text::of(alloc, payload)?,
+        seconds,
+        now,
+    })
 }
 
 // Made by Python's hashlib and hmac after Django's `get_session_auth_hash`, under the key `k0`.

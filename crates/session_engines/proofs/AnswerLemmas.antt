@@ -1,5 +1,5 @@
 -- What a keeper answered, by what its tables hold.
-use Rattle.std.proofs.Common.{◌≡◌, List, [], All, subst, sym, ◌∙◌}
+use Rattle.std.proofs.Common.{◌≡◌, List, [], All, ap, subst, sym, ◌∙◌}
 use Rattle.std.specs.Prelude.{Result, Ok, Err}
 use Rattle.std.proofs.lemmas.List.Elements.{All-nil}
 use Rattle.ledger_rows.specs.Replies.{IsReplyOf}
@@ -55,4 +55,21 @@ unchanged-answer cfg op kept answer reply reply_is none kind value stays = recor
       on_any kept.report (λ contents. changed_by answer.changes.items contents.tables ≡ tables_after cfg.engine op contents.tables)
       (λ contents. subst (λ (changes : List Change). changed_by changes contents.tables ≡ tables_after cfg.engine op contents.tables) (sym none) (stays contents.tables));
   sound = subst (λ (changes : List Change). All IsSoundChange changes) (sym none) (All-nil IsSoundChange);
+}
+
+-- an operation, by what was found of the tables
+pub answer-by : (cfg : Cfg) (op : Op) (kept : Kept) (answer : Answer) (reply : Reply) (changes : List Change) (P : Contents → Type 0)
+    → answer.reply ≡ reply → answer.changes.items ≡ changes → IsReplyOf op reply → All IsSoundChange changes → OnHolding kept.report P
+    → ((contents : Contents) → P contents → reply ≡ reply_to cfg op (uncached contents.tables))
+    → ((contents : Contents) → P contents → changed_by changes contents.tables ≡ tables_after cfg.engine op contents.tables)
+    → IsAnswer cfg op kept answer
+answer-by cfg op kept answer reply changes P reply_is changes_are kind sound found replies leaves = record {
+  reply = record {
+    kind = subst (λ (r : Reply). IsReplyOf op r) (sym reply_is) kind;
+    value = on_holding kept.report P (λ contents. answer.reply ≡ reply_to cfg op (uncached contents.tables)) found (λ contents is. reply_is ∙ replies contents is);
+  };
+  changes =
+      on_holding kept.report P (λ contents. changed_by answer.changes.items contents.tables ≡ tables_after cfg.engine op contents.tables) found
+      (λ contents is. ap (λ cs. changed_by cs contents.tables) changes_are ∙ leaves contents is);
+  sound = subst (λ (cs : List Change). All IsSoundChange cs) (sym changes_are) sound;
 }

@@ -1,5 +1,5 @@
 -- A load, put together from what it reads.
-use Rattle.std.proofs.Common.{◌≡◌, ℕ, List, Bool, true, false, Option, Some, None, ap, refl, sym, subst, ◌∙◌}
+use Rattle.std.proofs.Common.{◌≡◌, ℕ, List, Bool, true, false, Option, Some, None, ap, refl, sym, ◌∙◌}
 use Rattle.std.specs.Prelude.{if◌then◌else◌}
 use Rattle.serde_json.specs.Data.{Members}
 use Rattle.session_codec.specs.SessionMap.{auth_of}
@@ -13,7 +13,6 @@ use Rattle.ledger_rows.specs.declared.rows.Backend.{Backend}
 use Rattle.ledger_rows.specs.declared.rows.Cfg.{Cfg}
 use Rattle.ledger_rows.specs.declared.rows.Engine.{Engine}
 use Rattle.ledger_rows.specs.declared.rows.Engine.TheVariants.{Db}
-use Rattle.ledger_rows.specs.declared.verdict.Verdict.{Verdict}
 use Rattle.ledger_rows.specs.declared.verdict.Verdict.TheVariants.{NoCookie, NotStored}
 use Rattle.session_engines.specs.Loading.{corrupt, judged, loaded_text, unstored}
 use Rattle.session_engines.specs.Taking.{uncached}

@@ -1,5 +1,5 @@
 -- What is seen of a ledger, what a step does to it, and when it is sound.
-use Rattle.std.specs.Prelude.{◌≡◌, ◌<◌, ◌≤◌, ◌+◌, ◌^◌, ℕ, List, [], ◌∷◌, ◌++◌, Result, Ok, Err, ⊤}
+use Rattle.std.specs.Prelude.{◌≡◌, ◌<◌, ◌≤◌, ◌+◌, ◌^◌, ℕ, List, [], ◌∷◌, ◌++◌, Result, Ok, Err}
 use Rattle.outside.specs.Faults.{Rose}
 use Rattle.ledger_rows.specs.State.{State}
 use Rattle.ledger_rows.specs.Step.{cache_after, reply_to, tables_after}

@@ -1,4 +1,5 @@
 -- What the public contracts of this crate and of those above it cite.
+pub mod KeyChange
 pub mod Ledger
 pub mod Loading
 pub mod OpenFault

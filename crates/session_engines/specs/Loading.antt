@@ -1,5 +1,5 @@
 -- The parts of a load: what is stored under a cookie, what it is read as, and the user whom it names.
-use Rattle.std.specs.Prelude.{ℕ, List, [], Option, None, Some, if◌then◌else◌}
+use Rattle.std.specs.Prelude.{ℕ, List, Option, None, Some, if◌then◌else◌}
 use Rattle.serde_json.specs.Data.{Members}
 use Rattle.session_codec.specs.SessionMap.{auth_of}
 use Rattle.session_codec.specs.SessionText.{payload_of}

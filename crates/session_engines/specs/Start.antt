@@ -1,5 +1,5 @@
 -- What a start of the program over a store does, and what it enters.
-use Rattle.std.specs.Prelude.{◌≡◌, ◌<◌, ◌≤◌, ◌+◌, ◌^◌, ◌⊎◌, ℕ, List, []}
+use Rattle.std.specs.Prelude.{◌≡◌, ◌≤◌, ◌+◌, ◌^◌, ◌⊎◌, ℕ, List, []}
 use Rattle.outside.specs.Faults.{Rose}
 use Rattle.ledger_rows.specs.Rows.{IsNumber}
 use Rattle.ledger_rows.specs.History.{IsLegal}

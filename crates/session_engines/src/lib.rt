@@ -3,9 +3,11 @@
 #![tactic(auto)]
 
 mod answer;
+mod keys;
 mod ledger;
 mod load;
 mod open_fault;
+mod sessions;
 mod start;
 mod step;
 mod step_fault;

@@ -5,6 +5,7 @@ mod connection;
 mod devices;
 mod sessions;
 mod signing;
+mod store;
 
 use crate::site::{manage, manage_seeded};
 use crate::status::Status;

@@ -39,7 +39,7 @@ struct Answer {
     body: &'static str,
 }
 
-fn answers_by_route() -> [Answer; 8] {
+fn answers_by_route() -> [Answer; 9] {
     [
         Answer {
             input: "HEAD /whoami/ HTTP/1.1\r\nHost: example.com\r\n\r\n",
@@ -74,12 +74,20 @@ fn answers_by_route() -> [Answer; 8] {
             body: "",
         },
         Answer {
-            input: "GET /whoami/ HTTP/1.1\r\nHost: Example.com\r\n\r\n",
+            input: "GET /whoami/ HTTP/1.1\r\nHost: evil.com\r\n\r\n",
             status: "400 Bad Request",
             length: 15,
             lines: "",
             connection: "keep-alive",
             body: "error=bad-host\n",
+        },
+        Answer {
+            input: "POST /login/ HTTP/1.1\r\nHost: Example.com.:80\r\nContent-Length: 0\r\n\r\n",
+            status: "403 Forbidden",
+            length: 21,
+            lines: "",
+            connection: "keep-alive",
+            body: "error=csrf-no-cookie\n",
         },
         Answer {
             input: "GET /none HTTP/1.1\r\n\r\n",

@@ -1,4 +1,4 @@
-use Rattle.std.proofs.Common.{◌≡◌, Some, sym, ◌∙◌}
+use Rattle.std.proofs.Common.{◌≡◌, sym, ◌∙◌}
 use Rattle.std.specs.Option.{option_copied}
 use Rattle.session_codec.specs.SessionMap.{auth_of}
 use Rattle.ledger_rows.specs.Admission.{named_user}

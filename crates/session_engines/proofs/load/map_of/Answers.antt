@@ -1,4 +1,4 @@
-use Rattle.std.proofs.Common.{◌≡◌, Err, ap, sym}
+use Rattle.std.proofs.Common.{Err, ap, sym}
 use Rattle.ledger_rows.specs.Admission.{map_in}
 use Rattle.session_engines.proofs.load.map_of.Goals as goal
 

@@ -1,6 +1,6 @@
-use Rattle.std.proofs.Common.{◌≡◌, List, All, subst, sym, rules}
+use Rattle.std.proofs.Common.{List, All, subst, sym, rules}
 use Rattle.ledger_rows.specs.Rows.{AreSound, IsSoundUser}
-use Rattle.ledger_rows.specs.Tables.{Tables, opening_tables}
+use Rattle.ledger_rows.specs.Tables.{opening_tables}
 use Rattle.ledger_rows.specs.declared.rows.UserRow.{UserRow}
 use Rattle.ledger_rows.proofs.OpeningLemmas.{opening_rows_are_sound}
 use Rattle.keepers.proofs.memory_tables.MemTables.of.Goals as goal
