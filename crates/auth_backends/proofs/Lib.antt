@@ -1,0 +1,2 @@
+pub mod AuthenticationLemmas
+pub mod SessionBoxLemmas
