@@ -6,7 +6,7 @@ use Rattle.crypto_text.specs.Moment.{IsMoment}
 use Rattle.ledger_rows.specs.declared.operation.Op.{Op}
 use Rattle.ledger_rows.specs.declared.operation.Op.TheVariants.{Load}
 use Rattle.ledger_rows.specs.declared.reply.Reply.{Reply}
-use Rattle.middleware_chain.specs.SessionCookie.{session_cookie}
+use Rattle.middleware_chain.specs.RequestCookie.{session_cookie}
 use Rattle.middleware_chain.specs.declared.settings.Settings.{Settings}
 use Rattle.account_views.specs.Handler.{script}
 use Rattle.account_views.specs.Script.{Steps, Ask}

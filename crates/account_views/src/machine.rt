@@ -2,7 +2,7 @@
 
 ghost use Rattle.std.specs.Prelude.{◌≡◌, IfOk, None, OnErr};
 ghost use Rattle.crypto_text.specs.Moment.{IsMoment};
-ghost use Rattle.account_views.specs.Handler.{script, script_of};
+ghost use Rattle.account_views.specs.Handler.{has_view, script, script_of};
 ghost use Rattle.account_views.specs.Machine.{EndsWhereDone, IsEnded, left, spent_response, stage_left, steps_of_next};
 ghost use Rattle.account_views.specs.Script.{steps_of};
 ghost use Rattle.account_views.specs.Walk.{AtMost, IsProper};
@@ -15,7 +15,7 @@ use crate::whoami::whoami;
 use crypto_text::{Text, TextList};
 use http_edge::{Request, Response};
 use ledger_rows::{Op, Reply};
-use middleware_chain::{Begun, Settings, begin, delivery_of};
+use middleware_chain::{Begun, Route, Settings, begin, delivery_of, plain_page};
 use std::alloc::{AllocError, Global};
 use std::mem::replace;
 
@@ -104,7 +104,7 @@ fn advance(
     ensures { IfOk result (λ progress. steps_of (stage_left facts.now) progress ≡ stage_left facts.now stage reply) }
 {
     match stage {
-        Stage::Started(begun) => Ok(first(facts, begun)),
+        Stage::Started(begun) => first(alloc, facts, begun),
         Stage::Loading { came } => {
             let visit = visit_of(reply);
             let body = whoami(alloc, &visit)?;
@@ -114,16 +114,33 @@ fn advance(
     }
 }
 
-fn first(facts: &Facts, begun: Begun) -> Progress<Stage, Response>
-    ensures { steps_of (stage_left facts.now) result ≡ script_of facts.now begun }
+fn first(
+    alloc: Global,
+    facts: &Facts,
+    begun: Begun,
+) -> Result<Progress<Stage, Response>, AllocError>
+    ensures { IfOk result (λ progress. steps_of (stage_left facts.now) progress ≡ script_of facts.now begun) }
 {
-    match begun {
-        Begun::Answer(response) => Progress::Ends(response),
-        Begun::Go { cookie } => {
-            let came = cookie.is_some();
-            let now = facts.moment;
-            Progress::Asks(Op::Load { cookie, now }, Stage::Loading { came })
-        }
+    let context = match begun {
+        Begun::Answer(response) => return Ok(Progress::Ends(response)),
+        Begun::Go(context) => context,
+    };
+    if !has_view(&context.route) {
+        let page = plain_page(alloc, 404, "error=no-route\n", facts.delivery)?;
+        return Ok(Progress::Ends(page));
+    }
+    let cookie = context.session;
+    let came = cookie.is_some();
+    let now = facts.moment;
+    Ok(Progress::Asks(Op::Load { cookie, now }, Stage::Loading { came }))
+}
+
+fn has_view(route: &Route) -> bool
+    ensures { result ≡ has_view route.now }
+{
+    match route {
+        Route::Whoami => true,
+        _ => false,
     }
 }
 

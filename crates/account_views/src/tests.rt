@@ -26,6 +26,9 @@ fn settings_of(alloc: Global) -> Result<Settings, AllocError> {
             preferred: Hasher::Md5,
         },
         allowed: TextList::of(alloc, &hosts)?,
+        trusted: RowList::from_vec(Vec::new(alloc)),
+        proxy_secure: false,
+        cookie_secure: false,
         common: TextList::from_vec(Vec::new(alloc)),
     })
 }

@@ -14,7 +14,7 @@ use std::alloc::Global;
 use std::str;
 
 /// What is written on a connection whose client sends these bytes.
-pub fn answered<W: Words>(
+pub(crate) fn answered<W: Words>(
     alloc: Global,
     settings: &str,
     sent: &str,

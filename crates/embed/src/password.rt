@@ -9,7 +9,7 @@ use pass_hashers::{Hasher, make};
 use std::alloc::{AllocError, Global};
 
 /// A text that the password verifies, under a salt of one letter a random word.
-pub fn password_text(
+pub(crate) fn password_text(
     alloc: Global,
     hasher: Hasher,
     password: &str,

@@ -1,8 +1,11 @@
 pub mod Begun
+pub mod Context
+pub mod CsrfView
 pub mod FieldLimit
+pub mod Fields
 pub mod HostCheck
-pub mod MethodCheck
 pub mod Page
 pub mod Refusal
-pub mod SessionCookie
-pub mod SlashRedirect
+pub mod RequestCookie
+pub mod Route
+pub mod SlashTarget

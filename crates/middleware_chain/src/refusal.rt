@@ -2,11 +2,13 @@
 
 ghost use Rattle.std.specs.Prelude.{◌≡◌, IfOk};
 ghost use Rattle.http_edge.specs.ResponseText.{IsStatus};
-ghost use Rattle.middleware_chain.specs.Refusal.{refusal_page};
+ghost use Rattle.middleware_chain.specs.Refusal.{csrf_body, refusal_page};
 
 use crate::page::{delivery_of, plain_page};
-use crate::slash_redirect::slash_target;
+use crate::route::{Methods, allow_text};
+use crate::slash_target::slash_target;
 use crypto_text::Text;
+use csrf_tokens::CsrfReason;
 use http_edge::{Request, Response};
 use std::alloc::{AllocError, Global};
 
@@ -18,10 +20,12 @@ pub enum Refusal {
     /// The path is that of a route without its last slash.
     NoSlash,
     NoRoute,
-    /// The route takes other methods.
-    OtherMethod,
+    /// The route takes these methods and not the request's.
+    OtherMethod { methods: Methods },
     /// The query or the form has more than 1,000 fields.
     TooManyFields,
+    /// The request may be forged.
+    Csrf { reason: CsrfReason },
 }
 
 /// The page of a request that is refused.
@@ -42,10 +46,31 @@ pub fn refusal_page(
             ..plain_page(alloc, 301, "", delivery)?
         }),
         Refusal::NoRoute => plain_page(alloc, 404, "error=no-route\n", delivery),
-        Refusal::OtherMethod => Ok(Response {
-            allow: Some(Text::of(alloc, "GET, HEAD")?),
+        Refusal::OtherMethod { methods } => Ok(Response {
+            allow: Some(Text::of(alloc, allow_text(methods))?),
             ..plain_page(alloc, 405, "error=method\n", delivery)?
         }),
         Refusal::TooManyFields => plain_page(alloc, 400, "error=too-many-fields\n", delivery),
+        Refusal::Csrf { reason } => plain_page(alloc, 403, csrf_body(reason), delivery),
+    }
+}
+
+#[tactic(auto, unfolding(crate::specs::Refusal::csrf_body))]
+fn csrf_body(reason: CsrfReason) -> &'static str
+    ensures { result.now ≡ csrf_body reason }
+{
+    match reason {
+        CsrfReason::BadOrigin => "error=csrf-bad-origin\n",
+        CsrfReason::NoReferer => "error=csrf-no-referer\n",
+        CsrfReason::MalformedReferer => "error=csrf-malformed-referer\n",
+        CsrfReason::InsecureReferer => "error=csrf-insecure-referer\n",
+        CsrfReason::BadReferer => "error=csrf-bad-referer\n",
+        CsrfReason::NoCookie => "error=csrf-no-cookie\n",
+        CsrfReason::CookieLength => "error=csrf-cookie-length\n",
+        CsrfReason::CookieCharacters => "error=csrf-cookie-characters\n",
+        CsrfReason::TokenMissing => "error=csrf-token-missing\n",
+        CsrfReason::TokenLength => "error=csrf-token-length\n",
+        CsrfReason::TokenCharacters => "error=csrf-token-characters\n",
+        CsrfReason::TokenIncorrect => "error=csrf-token-incorrect\n",
     }
 }

@@ -1,5 +1,6 @@
 use super::*;
 use crypto_text::{Bytes, Text, TextList};
+use csrf_tokens::Trusted;
 use http_edge::{EdgeFault, Method, Request, Response};
 use ledger_rows::{Cfg, Engine, RowList};
 use pass_hashers::Hasher;
@@ -18,9 +19,15 @@ fn optional_text(alloc: Global, text: Option<&str>) -> Result<Option<Text>, Allo
     }
 }
 
-/// Of a site whose one host is `example.com`.
+/// Of a site whose one host is `example.com`, with a trusted origin and a proxy before it.
 fn settings_of(alloc: Global) -> Result<Settings, AllocError> {
     let hosts = [text_of(alloc, "example.com")?];
+    let mut trusted = Vec::new(alloc);
+    trusted.push(Trusted {
+        scheme: text_of(alloc, "https")?,
+        netloc: text_of(alloc, ".example.org")?,
+        wild: true,
+    })?;
     Ok(Settings {
         cfg: Cfg {
             engine: Engine::Db,
@@ -29,6 +36,9 @@ fn settings_of(alloc: Global) -> Result<Settings, AllocError> {
             preferred: Hasher::Md5,
         },
         allowed: TextList::of(alloc, &hosts)?,
+        trusted: RowList::from_vec(trusted),
+        proxy_secure: true,
+        cookie_secure: false,
         common: TextList::from_vec(Vec::new(alloc)),
     })
 }
@@ -41,6 +51,8 @@ struct Asked<'a> {
     path: &'a str,
     query: Option<&'a str>,
     cookie: Option<&'a str>,
+    proto: Option<&'a str>,
+    referer: Option<&'a str>,
     form: Option<&'a str>,
 }
 
@@ -50,6 +62,8 @@ const WHOAMI: Asked<'static> = Asked {
     path: "/whoami/",
     query: None,
     cookie: None,
+    proto: None,
+    referer: None,
     form: None,
 };
 
@@ -62,9 +76,9 @@ fn request_of(alloc: Global, asked: &Asked<'_>) -> Result<Request, AllocError> {
         host: optional_text(alloc, asked.host)?,
         cookie: optional_text(alloc, asked.cookie)?,
         origin: None,
-        referer: None,
+        referer: optional_text(alloc, asked.referer)?,
         csrf: None,
-        proto: None,
+        proto: optional_text(alloc, asked.proto)?,
         form: asked.form.is_some(),
         body: Bytes::of(alloc, asked.form.unwrap_or("").as_bytes())?,
         keep: true,
@@ -100,7 +114,14 @@ const BAD_HOST: Due = Due {
     allow: None,
 };
 
-fn refused_requests() -> [(Asked<'static>, Due); 6] {
+const NO_ROUTE: Due = Due {
+    status: 404,
+    body: "error=no-route\n",
+    location: None,
+    allow: None,
+};
+
+fn refused_requests() -> [(Asked<'static>, Due); 7] {
     [
         (
             Asked {
@@ -112,10 +133,22 @@ fn refused_requests() -> [(Asked<'static>, Due); 6] {
         ),
         (
             Asked {
-                host: Some("Example.com"),
+                path: "/reset/MQ/a/b/",
                 ..WHOAMI
             },
-            BAD_HOST,
+            NO_ROUTE,
+        ),
+        (
+            Asked {
+                path: "/reset/MQ/set-password",
+                ..WHOAMI
+            },
+            Due {
+                status: 301,
+                body: "",
+                location: Some("/reset/MQ/set-password/"),
+                allow: None,
+            },
         ),
         (
             Asked {
@@ -133,28 +166,10 @@ fn refused_requests() -> [(Asked<'static>, Due); 6] {
         ),
         (
             Asked {
-                path: "/whoami",
-                query: Some(""),
-                ..WHOAMI
-            },
-            Due {
-                status: 301,
-                body: "",
-                location: Some("/whoami/?"),
-                allow: None,
-            },
-        ),
-        (
-            Asked {
                 path: "/whoami/x",
                 ..WHOAMI
             },
-            Due {
-                status: 404,
-                body: "error=no-route\n",
-                location: None,
-                allow: None,
-            },
+            NO_ROUTE,
         ),
         (
             Asked {
@@ -168,6 +183,18 @@ fn refused_requests() -> [(Asked<'static>, Due); 6] {
                 allow: Some("GET, HEAD"),
             },
         ),
+        (
+            Asked {
+                path: "/logout/",
+                ..WHOAMI
+            },
+            Due {
+                status: 405,
+                body: "error=method\n",
+                location: None,
+                allow: Some("POST"),
+            },
+        ),
     ]
 }
 
@@ -177,7 +204,7 @@ fn answer_to(alloc: Global, asked: &Asked<'_>) -> Result<Option<Response>, Alloc
     let request = request_of(alloc, asked)?;
     match begin(alloc, &settings, &request)? {
         Begun::Answer(response) => Ok(Some(response)),
-        Begun::Go { .. } => Ok(None),
+        Begun::Go(_) => Ok(None),
     }
 }
 
@@ -192,6 +219,87 @@ fn each_refusal_has_its_page(rt: HostRuntime) -> Result<(), Fail> {
         };
         let answer = answer_to(alloc, &asked)?;
         assert_eq!(rt; answer, Some(page), "{} {:?}", asked.path, asked.query);
+    }
+    Ok(())
+}
+
+#[test]
+fn hosts_are_compared_without_case_port_and_last_dot(rt: HostRuntime) -> Result<(), Fail> {
+    let alloc = rt.alloc();
+    for (host, is_taken) in [
+        ("EXAMPLE.com.:8000", true),
+        ("evil.com", false),
+        ("example.com:", false),
+        ("exa mple.com", false),
+    ] {
+        let asked = Asked {
+            host: Some(host),
+            ..WHOAMI
+        };
+        let answer = answer_to(alloc, &asked)?;
+        assert_eq!(rt; answer.is_none(), is_taken, "{host}");
+    }
+    Ok(())
+}
+
+/// A form that is sent by HTTPS: its referer, its cookie, its body, and how the refusal of it ends.
+type Sent = (
+    Option<&'static str>,
+    Option<&'static str>,
+    &'static str,
+    Option<&'static str>,
+);
+
+const COOKIE: &str = "csrftoken=aaaaaaaaaaaaaaaaaaaaaaaaaaaaaaaa";
+
+const TRUSTED: &str = "https://a.example.org/x";
+
+fn sent_forms() -> [Sent; 6] {
+    [
+        (None, None, "", Some("no-referer")),
+        (
+            Some("http://example.com/"),
+            None,
+            "",
+            Some("insecure-referer"),
+        ),
+        (Some(TRUSTED), None, "", Some("no-cookie")),
+        (Some(TRUSTED), Some(COOKIE), "a=b", Some("token-missing")),
+        (
+            Some(TRUSTED),
+            Some(COOKIE),
+            "csrfmiddlewaretoken=aaaaaaaaaaaaaaaaaaaaaaaaaaaaaaaa&csrfmiddlewaretoken=b",
+            Some("token-length"),
+        ),
+        (
+            Some("https://example.com/login/"),
+            Some(COOKIE),
+            "csrfmiddlewaretoken=b&csrfmiddlewaretoken=aaaaaaaaaaaaaaaaaaaaaaaaaaaaaaaa",
+            None,
+        ),
+    ]
+}
+
+#[test]
+fn a_form_goes_on_where_it_is_not_forged(rt: HostRuntime) -> Result<(), Fail> {
+    let alloc = rt.alloc();
+    for (referer, cookie, body, refusal) in sent_forms() {
+        let asked = Asked {
+            method: Method::Post,
+            path: "/login/",
+            proto: Some("https"),
+            referer,
+            cookie,
+            form: Some(body),
+            ..WHOAMI
+        };
+        let due = match refusal {
+            Some(reason) => Some(format!(in alloc; "error=csrf-{reason}\n")?),
+            None => None,
+        };
+        let answer = answer_to(alloc, &asked)?;
+        let page = answer.as_ref().map(|page| page.body.as_str());
+        assert_eq!(rt; page, due.as_ref().map(|text| text.as_str()), "{body}");
     }
     Ok(())
 }
@@ -240,8 +348,12 @@ fn a_request_goes_on_with_its_last_session_cookie(rt: HostRuntime) -> Result<(),
             ..WHOAMI
         };
         match begin(alloc, &settings, &request_of(alloc, &asked)?)? {
-            Begun::Go { cookie } => {
-                assert!(rt; cookie == optional_text(alloc, due)?, "{:?}", header);
+            Begun::Go(context) => {
+                assert!(rt;
+                    context.session == optional_text(alloc, due)?,
+                    "{:?}",
+                    header
+                );
             }
             Begun::Answer(_) => panic!(rt; "the request is refused"),
         }

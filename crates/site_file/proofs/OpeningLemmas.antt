@@ -1,5 +1,5 @@
 -- The opening of well formed entries is one that a store may begin with.
-use Rattle.std.proofs.Common.{◌≡◌, ◌==◌, ℕ, Bool, true, false, cond, List, [], ◌∷◌, Option, Some, None, IsSome, map, refl, ap, sym, subst, ◌∙◌, arith, suc}
+use Rattle.std.proofs.Common.{◌≡◌, ◌==◌, ◌<◌, ℕ, length, Bool, true, false, cond, List, [], ◌∷◌, Option, Some, None, IsSome, map, refl, ap, sym, subst, ◌∙◌, arith, suc}
 use Rattle.std.specs.List.{All, Contains}
 use Rattle.std.proofs.lemmas.List.{get_or_default}
 use Rattle.std.proofs.lemmas.List.Elements.{All-map}
@@ -26,59 +26,61 @@ IsFound users id user = Contains users user × (user.id ≡ id)
 
 found_first : (row : UserRow) (rows : List UserRow) (id : ℕ) (user : UserRow) (same : Bool) → (row.id == id) ≡ same
     → (user_of rows id ≡ Some user → IsFound rows id user) → cond same (Some row) (user_of rows id) ≡ Some user → IsFound (row ∷ rows) id user
-found_first row rows id user true same behind found =
+found_first row rows id user true same in_others found =
     let here : row ≡ user = cc in ((0, omega arith, here), ap (λ (r : UserRow). r.id) (sym here) ∙ eqb-true row.id id same)
-found_first row rows id user false same behind found =
-    let in_rest = behind found in ((suc in_rest.0.0, omega (arith, in_rest.0.1), in_rest.0.2), in_rest.1)
+found_first row rows id user false same in_others found =
+    let in_rest = in_others found in ((suc in_rest.0.0, omega (arith, in_rest.0.1), in_rest.0.2), in_rest.1)
 
 user_of-Some : (users : List UserRow) (id : ℕ) (user : UserRow) → user_of users id ≡ Some user → IsFound users id user
 user_of-Some [] id user found = absurd (cc found)
 user_of-Some (row ∷ rows) id user found = found_first row rows id user (row.id == id) refl (user_of-Some rows id user) found
 
-first_key-held : (keys : List (List ℕ)) → IsKeys keys → Contains keys (key_at keys 0)
-first_key-held keys form = (0, form.some, get_or_default keys 0 (key_at keys 0) [] form.some)
+key-held : (keys : List (List ℕ)) (at : ℕ) → at < length keys → Contains keys (key_at keys at)
+key-held keys at lt = (at, lt, get_or_default keys at (key_at keys at) [] lt)
 
 -- a session's text is that of the login of the user who is found
-login_text-found : (opening : Opening) (entry : SessionEntry) (found : Option UserRow) → IsKeys opening.keys → IsSessionEntry opening.users entry → IsSome found
+login_text-found : (opening : Opening) (entry : SessionEntry) (found : Option UserRow) → IsSessionEntry opening.keys opening.users entry → IsSome found
     → user_of opening.users entry.user ≡ found
-    → IsLoginText opening (text_of Stored (auth_members entry.user (path_of Model) (auth_hash (password_of found) (key_at opening.keys 0))) opening.keys entry.began)
-login_text-found opening entry None keys form some is = absurd (cc some)
-login_text-found opening entry (Some user) keys form some is =
+    → (let key = key_at opening.keys entry.under in
+    IsLoginText opening (text_of Stored (auth_members entry.user (path_of Model) (auth_hash (password_of found) key)) (key ∷ []) entry.began))
+login_text-found opening entry None form some is = absurd (cc some)
+login_text-found opening entry (Some user) form some is =
+    let key = key_at opening.keys entry.under in
     let listed = user_of-Some opening.users entry.user user is in record {
       user = user;
       backend = Model;
-      key = key_at opening.keys 0;
+      key = key;
       moment = entry.began;
       listed = listed.0;
-      held = first_key-held opening.keys keys;
+      held = key-held opening.keys entry.under form.under;
       began = form.began;
-      whole = ap (λ id. text_of Stored (auth_members id (path_of Model) (auth_hash user.password (key_at opening.keys 0))) opening.keys entry.began) (sym listed.1);
+      whole = ap (λ id. text_of Stored (auth_members id (path_of Model) (auth_hash user.password key)) (key ∷ []) entry.began) (sym listed.1);
     }
 
-session_row-form : (opening : Opening) (entry : SessionEntry) → IsKeys opening.keys → IsSessionEntry opening.users entry → IsOpeningSession opening (session_row opening.keys opening.users entry)
+session_row-form : (opening : Opening) (entry : SessionEntry) → IsSessionEntry opening.keys opening.users entry → IsOpeningSession opening (session_row opening.keys opening.users entry)
 unfolding session_row
-session_row-form opening entry keys form = record {
+session_row-form opening entry form = record {
   key = form.key;
   expire = form.expire;
-  text = login_text-found opening entry (user_of opening.users entry.user) keys form form.user refl;
+  text = login_text-found opening entry (user_of opening.users entry.user) form form.user refl;
 }
 
-session_rows-form : (opening : Opening) (entries : List SessionEntry) → IsKeys opening.keys → All (IsSessionEntry opening.users) entries
+session_rows-form : (opening : Opening) (entries : List SessionEntry) → All (IsSessionEntry opening.keys opening.users) entries
     → All (IsOpeningSession opening) (map (session_row opening.keys opening.users) entries)
-session_rows-form opening entries keys form = All-map (IsOpeningSession opening) (session_row opening.keys opening.users) entries (λ k d lt. session_row-form opening _ keys (form k d lt))
+session_rows-form opening entries form = All-map (IsOpeningSession opening) (session_row opening.keys opening.users) entries (λ k d lt. session_row-form opening _ (form k d lt))
 
 session_rows-keys : (keys : List (List ℕ)) (users : List UserRow) (entries : List SessionEntry) → keys_of_sessions (map (session_row keys users) entries) ≡ keys_of_entries entries
 unfolding session_row
 session_rows-keys keys users [] = refl
 session_rows-keys keys users (entry ∷ entries) = ap (λ rest. entry.key ∷ rest) (session_rows-keys keys users entries)
 
-pub opening_from-form : (keys : List (List ℕ)) (entries : Entries) → IsKeys keys → AreEntries entries → IsOpening (opening_from keys entries)
+pub opening_from-form : (keys : List (List ℕ)) (entries : Entries) → IsKeys keys → AreEntries keys entries → IsOpening (opening_from keys entries)
 unfolding opening_from
 opening_from-form keys entries is_keys form = record {
   keys = is_keys;
   users = form.users;
   groups = form.groups;
   perms = form.perms;
-  session_keys = subst AreDifferent (sym (session_rows-keys keys entries.users entries.sessions)) form.sessions.keys;
-  sessions = session_rows-form (opening_from keys entries) entries.sessions is_keys form.sessions.rows;
+  session_keys = subst AreDifferent (sym (session_rows-keys keys entries.users entries.sessions)) form.sessions.session_keys;
+  sessions = session_rows-form (opening_from keys entries) entries.sessions form.sessions.rows;
 }

@@ -2,15 +2,16 @@
 use Rattle.std.proofs.Common.{◌≡◌, ◌⊎◌, ◌<◌, ◌≤◌, ℕ, List, Option, Some, None, Result, Err, Bool, true, false, length, inl, inr, sym, subst, ◌∙◌, arith, MatchBool, codes}
 use Rattle.serde_json.specs.Data.{Data}
 use Rattle.serde_json.specs.Find.{as_object, get}
+use Rattle.csrf_tokens.specs.declared.verdict.Trusted.{Trusted}
 use Rattle.pass_hashers.specs.declared.hasher.Algo.{Algo}
 use Rattle.ledger_rows.specs.declared.rows.Opening.{Opening}
 use Rattle.site_file.specs.Fields.{has_only}
 use Rattle.site_file.specs.OpeningForm.{IsOpeningOf}
-use Rattle.site_file.specs.SiteFile.{AreCommonOf, AreHashersOf, AreHostsOf, AreIterationsOf, AreKeysOf, IsJsonOf, IsSaidBy, IsSaidByFields, IsSiteOf, Judges, Site, Wrong, field_names}
+use Rattle.site_file.specs.SiteFile.{AreCommonOf, AreHashersOf, AreHostsOf, AreIterationsOf, AreKeysOf, AreOriginsOf, IsJsonOf, IsSaidBy, IsSaidByFields, IsSiteOf, IsTruthOf, Judges, Site, Wrong, field_names}
 
 -- what is handed on is what was answered
-pub same_refusal : {A E : Type 0} (answer : Result A E) (fault other told : E) → answer ≡ Err other → other ≡ fault → answer ≡ Err told → fault ≡ told
-same_refusal answer fault other told is same says = cc
+pub same_refusal : {A E : Type 0} (answer : Result A E) (fault other named : E) → answer ≡ Err other → other ≡ fault → answer ≡ Err named → fault ≡ named
+same_refusal answer fault other named is same says = cc
 
 -- a field that says one value decides one way
 Judges-one : {A : Type 0} (number : ℕ) (IsSaid : A → Type 0) (Follows : A → Site → Type 0) → ((x y : A) → IsSaid x → IsSaid y → x ≡ y)
@@ -26,6 +27,9 @@ one_keys value x y p q = cc (p.read, q.read)
 one_hosts : (value : Option Data) (x y : List (List ℕ)) → AreHostsOf value x → AreHostsOf value y → x ≡ y
 one_hosts value x y p q = cc
 
+one_origins : (value : Option Data) (x y : List Trusted) → AreOriginsOf value x → AreOriginsOf value y → x ≡ y
+one_origins value x y p q = cc
+
 one_hashers : (value : Option Data) (x y : List Algo) → AreHashersOf value x → AreHashersOf value y → x ≡ y
 one_hashers None x y p q = p ∙ sym q
 one_hashers (Some value) x y p q = let names : p.names ≡ q.names = cc (p.read, q.read) in cc (names, p.known, q.known)
@@ -33,6 +37,10 @@ one_hashers (Some value) x y p q = let names : p.names ≡ q.names = cc (p.read,
 one_iterations : (value : Option Data) (x y : ℕ) → AreIterationsOf value x → AreIterationsOf value y → x ≡ y
 one_iterations None x y p q = p ∙ sym q
 one_iterations (Some value) x y p q = cc (p.0, q.0)
+
+one_truth : (value : Option Data) (x y : Bool) → IsTruthOf value x → IsTruthOf value y → x ≡ y
+one_truth None x y p q = p ∙ sym q
+one_truth (Some value) x y p q = cc
 
 one_common : (value : Option Data) (x y : List (List ℕ)) → AreCommonOf value x → AreCommonOf value y → x ≡ y
 one_common value x y p q = cc (p.read, q.read)
@@ -46,10 +54,13 @@ said_by_fields-one d =
     let named : List ℕ → Option Data = λ name. get name d in
     Judges-one _ (AreKeysOf (named (codes "keys"))) _ (one_keys (named (codes "keys"))) (λ keys.
     Judges-one _ (AreHostsOf (named (codes "allowed_hosts"))) _ (one_hosts (named (codes "allowed_hosts"))) (λ hosts.
+    Judges-one _ (AreOriginsOf (named (codes "trusted_origins"))) _ (one_origins (named (codes "trusted_origins"))) (λ trusted.
     Judges-one _ (AreHashersOf (named (codes "hashers"))) _ (one_hashers (named (codes "hashers"))) (λ installed.
     Judges-one _ (AreIterationsOf (named (codes "iterations"))) _ (one_iterations (named (codes "iterations"))) (λ iterations.
+    Judges-one _ (IsTruthOf (named (codes "proxy_secure"))) _ (one_truth (named (codes "proxy_secure"))) (λ proxy_secure.
+    Judges-one _ (IsTruthOf (named (codes "cookie_secure"))) _ (one_truth (named (codes "cookie_secure"))) (λ cookie_secure.
     Judges-one _ (AreCommonOf (named (codes "common"))) _ (one_common (named (codes "common"))) (λ common.
-    Judges-one _ (IsOpeningOf keys (named (codes "opening"))) _ (one_opening keys (named (codes "opening"))) (λ opening a b p q. p ∙ sym q))))))
+    Judges-one _ (IsOpeningOf keys (named (codes "opening"))) _ (one_opening keys (named (codes "opening"))) (λ opening a b p q. p ∙ sym q)))))))))
 
 said_by-one_at : (d : Data) (known : Bool) (a b : Site) → MatchBool known (IsSaidByFields d a) (a ≡ Wrong 0) → MatchBool known (IsSaidByFields d b) (b ≡ Wrong 0) → a ≡ b
 said_by-one_at d true a b p q = said_by_fields-one d a b p q

@@ -2,5 +2,6 @@
 pub mod Fields
 pub mod Entries
 pub mod OpeningForm
+pub mod TrustedOrigins
 pub mod SiteFile
 pub mod Laws

@@ -1,10 +1,11 @@
 -- What a settings file says: one JSON object (RFC 8259). The fields, their numbers and the order of refusals are this project's own.
-use Rattle.std.specs.Prelude.{◌≡◌, ◌<◌, ◌≤◌, ◌⊎◌, ℕ, List, [], ◌∷◌, not, length, bytes_eq, if◌then◌else◌, Option, Some, None, option_and_then, codes, IsUtf8, MatchBool}
+use Rattle.std.specs.Prelude.{◌≡◌, ◌<◌, ◌≤◌, ◌⊎◌, ℕ, Bool, List, [], ◌∷◌, false, not, length, bytes_eq, if◌then◌else◌, Option, Some, None, option_and_then, codes, IsUtf8, MatchBool}
 use Rattle.std.specs.Char.{is_ascii_uppercase}
 use Rattle.std.specs.List.{All, AllPass}
 use Rattle.serde_json.specs.Data.{Data}
-use Rattle.serde_json.specs.Find.{as_object, as_str, get}
+use Rattle.serde_json.specs.Find.{as_bool, as_object, as_str, get}
 use Rattle.serde_json.specs.Read.{read}
+use Rattle.csrf_tokens.specs.declared.verdict.Trusted.{Trusted}
 use Rattle.pass_hashers.specs.PasswordText.{AreIterations, name_of}
 use Rattle.pass_hashers.specs.declared.hasher.Algo.{Algo}
 use Rattle.pass_hashers.specs.declared.hasher.Algo.TheVariants as algos
@@ -17,11 +18,15 @@ use Rattle.ledger_rows.specs.declared.rows.Cfg.{Cfg}
 use Rattle.ledger_rows.specs.declared.rows.Engine.TheVariants.{Db}
 use Rattle.site_file.specs.Fields.{has_only, list_in, list_or_empty, number_in}
 use Rattle.site_file.specs.OpeningForm.{IsOpeningOf}
+use Rattle.site_file.specs.TrustedOrigins.{trusted_value}
 use Rattle.site_file.specs.declared.settings.SettingsAll.{SettingsAll}
 
--- the names of the fields: 1 is keys, 2 allowed_hosts, 5 hashers, 6 iterations, 11 common, 12 opening
+-- the names of the fields: 1 is keys, 2 allowed_hosts, 3 trusted_origins, 5 hashers, 6 iterations, 9 proxy_secure,
+-- 10 cookie_secure, 11 common, 12 opening
 unfoldable pub field_names : List (List ℕ)
-field_names = codes "keys" ∷ codes "allowed_hosts" ∷ codes "hashers" ∷ codes "iterations" ∷ codes "common" ∷ codes "opening" ∷ []
+field_names =
+    codes "keys" ∷ codes "allowed_hosts" ∷ codes "trusted_origins" ∷ codes "hashers" ∷ codes "iterations" ∷ codes "proxy_secure"
+    ∷ codes "cookie_secure" ∷ codes "common" ∷ codes "opening" ∷ []
 
 -- 1: the texts of the keys, which make a key list
 pub record AreKeysOf (value : Option Data) (keys : List (List ℕ)) : Type 0 where
@@ -31,6 +36,10 @@ pub record AreKeysOf (value : Option Data) (keys : List (List ℕ)) : Type 0 whe
 -- 2: any texts; none where the field is absent
 abbrev pub AreHostsOf : Option Data → List (List ℕ) → Type 0
 AreHostsOf value hosts = list_or_empty as_str value ≡ Some hosts
+
+-- 3: the origins that are trusted; none where the field is absent
+abbrev pub AreOriginsOf : Option Data → List Trusted → Type 0
+AreOriginsOf value trusted = list_or_empty trusted_value value ≡ Some trusted
 
 -- the algorithm of a name
 unfoldable pub algo_named : List ℕ → Option Algo
@@ -59,6 +68,11 @@ AreHashersOf (Some value) installed = AreNamesOf value installed
 abbrev pub AreIterationsOf : Option Data → ℕ → Type 0
 AreIterationsOf None iterations = iterations ≡ 600000
 AreIterationsOf (Some value) iterations = (number_in value ≡ Some iterations) × AreIterations iterations
+
+-- 9 and 10: a truth value; false where the field is absent
+abbrev pub IsTruthOf : Option Data → Bool → Type 0
+IsTruthOf None truth = truth ≡ false
+IsTruthOf (Some value) truth = as_bool value ≡ Some truth
 
 -- no ASCII letter is a capital
 abbrev pub IsLowerCase : List ℕ → Type 0
@@ -98,11 +112,24 @@ unfoldable pub IsSaidByFields : Data → Site → Type 0
 IsSaidByFields d =
     Judges 1 (AreKeysOf (get (codes "keys") d)) (λ keys.
     Judges 2 (AreHostsOf (get (codes "allowed_hosts") d)) (λ hosts.
+    Judges 3 (AreOriginsOf (get (codes "trusted_origins") d)) (λ trusted.
     Judges 5 (AreHashersOf (get (codes "hashers") d)) (λ installed.
     Judges 6 (AreIterationsOf (get (codes "iterations") d)) (λ iterations.
+    Judges 9 (IsTruthOf (get (codes "proxy_secure") d)) (λ proxy_secure.
+    Judges 10 (IsTruthOf (get (codes "cookie_secure") d)) (λ cookie_secure.
     Judges 11 (AreCommonOf (get (codes "common") d)) (λ common.
     Judges 12 (IsOpeningOf keys (get (codes "opening") d)) (λ opening site.
-    site ≡ Says (record { settings = record { cfg = cfg_of installed iterations; allowed = hosts; common = common }; opening = opening })))))))
+    site ≡ Says (record {
+      settings = record {
+        cfg = cfg_of installed iterations;
+        allowed = hosts;
+        trusted = trusted;
+        proxy_secure = proxy_secure;
+        cookie_secure = cookie_secure;
+        common = common;
+      };
+      opening = opening;
+    }))))))))))
 
 -- a value that is no object has a wrong field 0, as one with an unknown name
 abbrev pub IsSaidBy : Data → Site → Type 0

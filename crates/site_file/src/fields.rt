@@ -1,10 +1,11 @@
 //! The values of a JSON object by the names of its members.
 
-ghost use Rattle.std.specs.Prelude.{◌≡◌, ◌++◌, ℕ, None, Some, IfOk, IsErrOf, bytes_eq, map, option_map, option_and_then};
+ghost use Rattle.std.specs.Prelude.{◌≡◌, ◌++◌, ℕ, Bool, None, Some, IfOk, IsErrOf, bytes_eq, map, option_map, option_and_then};
 ghost use Rattle.std.specs.List.{list_any};
 ghost use Rattle.serde_json.specs.Data.{Data};
 ghost use Rattle.serde_json.specs.Find.{as_array, as_bool, as_object, as_str, get};
 ghost use Rattle.serde_json.specs.View.{items_view, members_view, view};
+ghost use Rattle.site_file.specs.SiteFile.{IsTruthOf};
 ghost use Rattle.site_file.specs.Fields.{field, has_only, has_only_names, items_in, list_in, list_or_empty, number_in};
 
 use crypto_text::{Ids, Text};
@@ -88,6 +89,20 @@ impl FromValue for Ids {
 
     fn from_value(alloc: Global, value: &Value) -> Result<Ids, FieldFault> {
         Ok(Ids::from_vec(list_of(alloc, value)?))
+    }
+}
+
+/// The truth value that a field may say; false where it is absent.
+pub(crate) fn truth_of(value: Option<&Value>) -> Result<bool, FieldFault>
+    ensures ok { IfOk result (IsTruthOf (option_map (λ v. view v.now) value.entry)) }
+    ensures form { IsErrOf result FieldFault.Form → (truth : Bool) → ¬ IsTruthOf (option_map (λ v. view v.now) value.entry) truth }
+{
+    match value {
+        Some(value) => match value.as_bool() {
+            Some(truth) => Ok(truth),
+            None => Err(FieldFault::Form),
+        },
+        None => Ok(false),
     }
 }
 

@@ -13,6 +13,7 @@ mod settings;
 #[cfg(test)]
 mod tests;
 mod texts;
+mod trusted_origins;
 
 pub use crate::entries::{Entries, SessionEntry};
 pub use crate::settings::{MOST_BYTES, SettingsAll, SettingsFault, read_settings};

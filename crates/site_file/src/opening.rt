@@ -1,6 +1,6 @@
 //! The field `opening`: what a new store begins with.
 
-ghost use Rattle.std.specs.Prelude.{◌≡◌, None, IfOk, IsErrOf, IsSome, map, option_map};
+ghost use Rattle.std.specs.Prelude.{◌≡◌, ◌∷◌, ◌<◌, [], None, IfOk, IsErrOf, IsSome, length, map, option_map};
 ghost use Rattle.std.specs.List.{All};
 ghost use Rattle.std.specs.List.Sorted.{IsStrictlyIncreasing};
 ghost use Rattle.serde_json.specs.View.{view};
@@ -8,11 +8,13 @@ ghost use Rattle.signing_core.specs.Keys.{key_at};
 ghost use Rattle.ledger_rows.specs.Opening.{IsOpening, ids_of_users};
 ghost use Rattle.ledger_rows.specs.Tables.{user_of};
 ghost use Rattle.ledger_rows.specs.declared.rows.Opening.{Opening};
-ghost use Rattle.site_file.specs.OpeningForm.{AreEntries, IsOpeningOf, opening_from, password_of, session_row};
+ghost use Rattle.site_file.specs.OpeningForm.{AreEntries, IsOpeningOf, IsSessionEntry, opening_from, password_of, session_row};
 
 use crate::entries::{Entries, SessionEntry, entries_of};
 use crate::fields::FieldFault;
 use crate::opening_form::{are_entries, user_of};
+use crate::texts::list_of_bytes;
+use crypto_text::Bytes;
 use ledger_rows::{Backend, Opening, RowList, SessionRow, UserRow, session_auth_text};
 use serde_json::Value;
 use session_codec::{SessionKind, SessionMap, encode};
@@ -30,7 +32,7 @@ pub(crate) fn opening_of(
     ensures form { IsErrOf result FieldFault.Form → (opening : Opening) → ¬ IsOpeningOf keys (option_map (λ v. view v.now) value.entry) opening }
 {
     let entries = entries_of(alloc, value)?;
-    if are_entries(alloc, &entries)? {
+    if are_entries(alloc, &keys, &entries)? {
         Ok(opening_from(alloc, keys, entries)?)
     } else {
         Err(FieldFault::Form)
@@ -39,7 +41,7 @@ pub(crate) fn opening_of(
 
 #[tactic(auto, unfolding(crate::specs::OpeningForm::opening_from))]
 fn opening_from(alloc: Global, keys: Keys, entries: Entries) -> Result<Opening, AllocError>
-    requires { AreEntries entries }
+    requires { AreEntries keys entries }
     ensures value { IfOk result (λ opening. opening ≡ opening_from keys entries) }
     ensures form { IfOk result (λ opening. IsOpening opening) }
 {
@@ -64,7 +66,8 @@ fn session_rows(
     users: &[UserRow],
     sessions: &[SessionEntry],
 ) -> Result<Vec<SessionRow>, AllocError>
-    requires { IsStrictlyIncreasing (ids_of_users users.now) }
+    requires ids { IsStrictlyIncreasing (ids_of_users users.now) }
+    requires form { All (IsSessionEntry keys.now users.now) sessions.now }
     ensures { IfOk result (λ rows. rows.items ≡ map (session_row keys.now users.now) sessions.now) }
 {
     let mut rows = Vec::with_capacity(alloc, sessions.len())?;
@@ -81,17 +84,32 @@ fn session_row(
     users: &[UserRow],
     entry: &SessionEntry,
 ) -> Result<SessionRow, AllocError>
-    requires { IsStrictlyIncreasing (ids_of_users users.now) }
+    requires ids { IsStrictlyIncreasing (ids_of_users users.now) }
+    requires under { entry.now.under < length keys.now }
     ensures { IfOk result (λ row. row ≡ session_row keys.now users.now entry.now) }
 {
-    let hash = session_auth_text(alloc, password_of(users, entry.user), keys.first())?;
+    let under = key_alone(alloc, keys, entry.under as usize)?;
+    let hash = session_auth_text(alloc, password_of(users, entry.user), under.first())?;
     let path = Backend::Model.path();
     let map = SessionMap::of_auth(alloc, entry.user, path, hash.as_str())?;
     Ok(SessionRow {
         key: entry.key.copy(alloc)?,
-        text: encode(alloc, &map, SessionKind::Stored, keys, entry.began)?,
+        text: encode(alloc, &map, SessionKind::Stored, &under, entry.began)?,
         expire: entry.expire,
     })
+}
+
+/// The key at an index, as the one key of a list.
+fn key_alone(alloc: Global, keys: &Keys, at: usize) -> Result<Keys, AllocError>
+    requires { at < length keys.now }
+    ensures { IfOk result (λ alone. alone ≡ key_at keys.now at ∷ []) }
+{
+    let key = Bytes::of(alloc, keys.key(at))?;
+    match list_of_bytes(alloc, key, Vec::new(alloc)) {
+        Ok(alone) => Ok(alone),
+        Err(FieldFault::Form) => unreachable!(),
+        Err(FieldFault::Memory) => Err(AllocError),
+    }
 }
 
 fn password_of(users: &[UserRow], id: u64) -> &str

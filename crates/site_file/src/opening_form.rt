@@ -1,6 +1,6 @@
 //! Whether the rows of an opening are well formed.
 
-ghost use Rattle.std.specs.Prelude.{◌≡◌, ◌↔◌, IfOk, IsTrue};
+ghost use Rattle.std.specs.Prelude.{◌≡◌, ◌↔◌, ◌<◌, IfOk, IsTrue, length};
 ghost use Rattle.std.specs.List.{All};
 ghost use Rattle.std.specs.List.Sorted.{IsStrictlyIncreasing};
 ghost use Rattle.std.specs.Option.{option_copied};
@@ -15,11 +15,12 @@ use crypto_text::{Text, are_different, is_moment};
 use ledger_rows::{UserRow, is_email, is_permission_word, is_session_key, is_user_name};
 use pass_hashers::is_password_text;
 use permissions::{GroupRow, PermRow};
+use signing_core::Keys;
 use std::alloc::{AllocError, Global};
 
-/// Whether all rows are well formed. The ids of a table come first: where they rise, rows are found by halves.
-pub(crate) fn are_entries(alloc: Global, entries: &Entries) -> Result<bool, AllocError>
-    ensures { IfOk result (λ answer. IsTrue answer ↔ AreEntries entries.now) }
+/// Whether all rows are well formed under these keys. The ids of a table come first: where they rise, rows are found by halves.
+pub(crate) fn are_entries(alloc: Global, keys: &Keys, entries: &Entries) -> Result<bool, AllocError>
+    ensures { IfOk result (λ answer. IsTrue answer ↔ AreEntries keys.now entries.now) }
 {
     let groups = group_ids(alloc, entries.groups.items())?;
     let perms = perm_ids(alloc, entries.perms.items())?;
@@ -28,7 +29,7 @@ pub(crate) fn are_entries(alloc: Global, entries: &Entries) -> Result<bool, Allo
         && are_row_ids(perms.as_slice())
         && are_row_ids(users.as_slice())
     {
-        are_rows(alloc, groups.as_slice(), perms.as_slice(), entries)
+        are_rows(alloc, keys, groups.as_slice(), perms.as_slice(), entries)
     } else {
         Ok(false)
     }
@@ -36,6 +37,7 @@ pub(crate) fn are_entries(alloc: Global, entries: &Entries) -> Result<bool, Allo
 
 fn are_rows(
     alloc: Global,
+    keys: &Keys,
     groups: &[u64],
     perms: &[u64],
     entries: &Entries,
@@ -43,13 +45,13 @@ fn are_rows(
     requires ids { HaveRowIds entries.now }
     requires groups { groups.now ≡ ids_of_groups entries.now.groups }
     requires perms { perms.now ≡ ids_of_perms entries.now.perms }
-    ensures { IfOk result (λ answer. IsTrue answer ↔ AreEntries entries.now) }
+    ensures { IfOk result (λ answer. IsTrue answer ↔ AreEntries keys.now entries.now) }
 {
     let users = entries.users.items();
     let of_users = are_users(alloc, groups, perms, users)?;
     let of_groups = are_groups(alloc, perms, entries.groups.items())?;
     let of_perms = are_perms(alloc, entries.perms.items())?;
-    let of_sessions = are_sessions(alloc, users, entries.sessions.items())?;
+    let of_sessions = are_sessions(alloc, keys, users, entries.sessions.items())?;
     Ok(of_users && of_groups && of_perms && of_sessions)
 }
 
@@ -135,31 +137,32 @@ fn is_perm(perm: &PermRow) -> bool
 
 fn are_sessions(
     alloc: Global,
+    keys: &Keys,
     users: &[UserRow],
     sessions: &[SessionEntry],
 ) -> Result<bool, AllocError>
     requires { IsStrictlyIncreasing (ids_of_users users.now) }
-    ensures { IfOk result (λ answer. IsTrue answer ↔ AreSessionEntries users.now sessions.now) }
+    ensures { IfOk result (λ answer. IsTrue answer ↔ AreSessionEntries keys.now users.now sessions.now) }
 {
-    let keys = session_keys(alloc, sessions)?;
-    Ok(are_different(keys) && are_session_rows(users, sessions))
+    let different = are_different(session_keys(alloc, sessions)?);
+    Ok(different && are_session_rows(keys, users, sessions))
 }
 
-fn are_session_rows(users: &[UserRow], sessions: &[SessionEntry]) -> bool
+fn are_session_rows(keys: &Keys, users: &[UserRow], sessions: &[SessionEntry]) -> bool
     requires { IsStrictlyIncreasing (ids_of_users users.now) }
-    ensures { IsTrue result ↔ All (IsSessionEntry users.now) sessions.now }
+    ensures { IsTrue result ↔ All (IsSessionEntry keys.now users.now) sessions.now }
 {
-    sessions.iter().all(|entry| is_session(users, entry))
+    sessions.iter().all(|entry| is_session(keys, users, entry))
 }
 
-fn is_session(users: &[UserRow], entry: &SessionEntry) -> bool
+fn is_session(keys: &Keys, users: &[UserRow], entry: &SessionEntry) -> bool
     requires { IsStrictlyIncreasing (ids_of_users users.now) }
-    ensures { IsTrue result ↔ IsSessionEntry users.now entry.now }
+    ensures { IsTrue result ↔ IsSessionEntry keys.now users.now entry.now }
 {
     is_session_key(entry.key.as_str())
         && user_of(users, entry.user).is_some()
         && entry.backend == 0
-        && entry.under == 0
+        && entry.under < keys.len() as u64
         && is_moment(entry.began)
         && is_moment(entry.expire)
 }

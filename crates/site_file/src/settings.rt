@@ -1,23 +1,26 @@
 //! A site's settings, and how they are read.
 
-ghost use Rattle.std.specs.Prelude.{◌≡◌, ◌≤◌, ℕ, List, IfOk, IsErrOf, codes, length};
+ghost use Rattle.std.specs.Prelude.{◌≡◌, ◌≤◌, ℕ, Bool, List, IfOk, IsErrOf, codes, length};
 ghost use Rattle.serde_json.specs.Find.{as_object, get};
 ghost use Rattle.serde_json.specs.View.{view};
+ghost use Rattle.csrf_tokens.specs.declared.verdict.Trusted.{Trusted};
 ghost use Rattle.pass_hashers.specs.PasswordText.{AreIterations};
 ghost use Rattle.pass_hashers.specs.declared.hasher.Algo.{Algo};
 ghost use Rattle.ledger_rows.specs.Form.{IsCfg};
 ghost use Rattle.ledger_rows.specs.Opening.{IsOpening};
 ghost use Rattle.ledger_rows.specs.declared.rows.Opening.{Opening};
 ghost use Rattle.site_file.specs.OpeningForm.{IsOpeningOf};
-ghost use Rattle.site_file.specs.SiteFile.{AreCommonOf, AreHashersOf, AreHostsOf, AreIterationsOf, AreKeysOf, IsSaidBy, IsSaidByFields, IsSiteOf, Says, Wrong, field_names};
+ghost use Rattle.site_file.specs.SiteFile.{AreCommonOf, AreHashersOf, AreHostsOf, AreIterationsOf, AreKeysOf, AreOriginsOf, IsSaidBy, IsSaidByFields, IsSiteOf, IsTruthOf, Says, Wrong, field_names};
 ghost use Rattle.site_file.specs.Fields.{has_only};
 
-use crate::fields::{FieldFault, has_only};
+use crate::fields::{FieldFault, has_only, truth_of};
 use crate::hashers::{cfg_of, hashers_of, iterations_of};
 use crate::opening::opening_of;
 use crate::texts::{common_of, hosts_of, keys_of};
+use crate::trusted_origins::origins_of;
 use crypto_text::TextList;
-use ledger_rows::Opening;
+use csrf_tokens::Trusted;
+use ledger_rows::{Opening, RowList};
 use middleware_chain::Settings;
 use pass_hashers::Algo;
 use serde_json::Value;
@@ -100,8 +103,11 @@ fn has_field_names(value: &Value) -> bool
         &[
             "keys",
             "allowed_hosts",
+            "trusted_origins",
             "hashers",
             "iterations",
+            "proxy_secure",
+            "cookie_secure",
             "common",
             "opening",
         ],
@@ -117,8 +123,11 @@ fn said_by_fields(alloc: Global, value: &Value) -> Result<SettingsAll, SettingsF
 {
     let keys = keys_field(alloc, value)?;
     let allowed = hosts_field(alloc, value)?;
+    let trusted = origins_field(alloc, value)?;
     let installed = hashers_field(alloc, value)?;
     let iterations = iterations_field(value)?;
+    let proxy_secure = truth_field(value, "proxy_secure", 9)?;
+    let cookie_secure = truth_field(value, "cookie_secure", 10)?;
     let common = common_field(alloc, value)?;
     let opening = opening_field(alloc, keys, value)?;
     let cfg = cfg_of(alloc, installed, iterations)?;
@@ -126,6 +135,9 @@ fn said_by_fields(alloc: Global, value: &Value) -> Result<SettingsAll, SettingsF
         settings: Settings {
             cfg,
             allowed,
+            trusted,
+            proxy_secure,
+            cookie_secure,
             common,
         },
         opening,
@@ -152,6 +164,16 @@ fn hosts_field(alloc: Global, value: &Value) -> Result<TextList, SettingsFault>
     }
 }
 
+fn origins_field(alloc: Global, value: &Value) -> Result<RowList<Trusted>, SettingsFault>
+    ensures ok { IfOk result (AreOriginsOf (get (codes "trusted_origins") (view value.now))) }
+    ensures wrong { (field : ℕ) → IsErrOf result (SettingsFault.Wrong field) → (field ≡ 3) × ((trusted : List Trusted) → ¬ AreOriginsOf (get (codes "trusted_origins") (view value.now)) trusted) }
+{
+    match origins_of(alloc, value.get("trusted_origins")) {
+        Ok(trusted) => Ok(trusted),
+        Err(fault) => Err(numbered(fault, 3)),
+    }
+}
+
 fn hashers_field(alloc: Global, value: &Value) -> Result<Vec<Algo>, SettingsFault>
     ensures ok { IfOk result (λ installed. AreHashersOf (get (codes "hashers") (view value.now)) installed.items) }
     ensures some { IfOk result (λ installed. 1 ≤ length installed.items) }
@@ -171,6 +193,16 @@ fn iterations_field(value: &Value) -> Result<u32, SettingsFault>
     match iterations_of(value.get("iterations")) {
         Ok(iterations) => Ok(iterations),
         Err(fault) => Err(numbered(fault, 6)),
+    }
+}
+
+fn truth_field(value: &Value, name: &str, number: u32) -> Result<bool, SettingsFault>
+    ensures ok { IfOk result (IsTruthOf (get name.now (view value.now))) }
+    ensures wrong { (field : ℕ) → IsErrOf result (SettingsFault.Wrong field) → (field ≡ number) × ((truth : Bool) → ¬ IsTruthOf (get name.now (view value.now)) truth) }
+{
+    match truth_of(value.get(name)) {
+        Ok(truth) => Ok(truth),
+        Err(fault) => Err(numbered(fault, number)),
     }
 }
 

@@ -4,15 +4,8 @@ use std::alloc::Global;
 use std::process::Abort;
 use std::test::Fail;
 
-/// A site with one user, a group, three permissions and one session.
-const SITE: &str = r#"{"keys":["k0"],"allowed_hosts":["example.com"],"hashers":["md5"],"opening":{
-"users":[{"id":1,"name":"alice","email":"alice@example.com","password":"md5$abcdefghijklmnopqrstuv$c3fcd3d76192e4007dfb496cca67e13b","active":true,"superuser":false,"groups":[1],"perms":[1]}],
-"groups":[{"id":1,"name":"editors","perms":[2]}],
-"perms":[{"id":1,"app":"blog","codename":"add_post"},{"id":2,"app":"blog","codename":"change_post"},{"id":3,"app":"blog","codename":"delete_post"}],
-"sessions":[{"key":"s1s1s1s1s1s1s1s1s1s1s1s1s1s1s1s1","user":1,"backend":0,"under":0,"at":1699999000,"expire":1700000001}]}}"#;
-
-/// The same site with a second key, and a second session under it.
-const ROTATED_SITE: &str =
+/// A site with one user, a group, three permissions and two sessions, the second one under the second key.
+const SITE: &str =
     r#"{"keys":["k0","k1"],"allowed_hosts":["example.com"],"hashers":["md5"],"opening":{
 "users":[{"id":1,"name":"alice","email":"alice@example.com","password":"md5$abcdefghijklmnopqrstuv$c3fcd3d76192e4007dfb496cca67e13b","active":true,"superuser":false,"groups":[1],"perms":[1]}],
 "groups":[{"id":1,"name":"editors","perms":[2]}],
@@ -23,8 +16,11 @@ const ROTATED_SITE: &str =
 // Computed with Python's `hmac`, `hashlib`, `base64` and `json` alone, as Django 4.2's `SessionStore.encode`
 // and `get_session_auth_hash` do it: the JSON of the three names under its base64url, the moment in base 62, and
 // the signature.
-const SESSION_TEXT: &str =
+const FIRST_TEXT: &str =
     "eyJfYXV0aF91c2VyX2JhY2tlbmQiOiJkamFuZ28uY29udHJpYi5hdXRoLmJhY2tlbmRzLk1vZGVsQmFja2VuZCIsIl9hdXRoX3VzZXJfaGFzaCI6Ijk0MjcwZDczYzA3YWRlOGEzNzBjN2U2NTRmOGY4ODI5YmFhZmZhMTY1M2U2Yzk2NDE0ODdkMzcxMzMxYmNiODEiLCJfYXV0aF91c2VyX2lkIjoiMSJ9:1r31Oi:0SYpRzhiYYGSqQujZCR9qvOTtWExMpQNBTaRRD9iWeo";
+
+const SECOND_TEXT: &str =
+    "eyJfYXV0aF91c2VyX2JhY2tlbmQiOiJkamFuZ28uY29udHJpYi5hdXRoLmJhY2tlbmRzLk1vZGVsQmFja2VuZCIsIl9hdXRoX3VzZXJfaGFzaCI6IjVkYTgzMGQyOTk1OGFiZmIzMWM1NTI4M2M0ZDRlMTFkYjAwOTdhMDMyMDFkYWFjNWExMzY2OWNkYWJmNWNjZGUiLCJfYXV0aF91c2VyX2lkIjoiMSJ9:1r31Oi:UIqEVSbiDDg7HNmVlTo0yLBXNzLmCpdTwUfHiBZwVr0";
 
 /// The number of the first wrong field, or 99 where there is none.
 fn wrong_field(alloc: Global, text: &str) -> u32 {
@@ -59,11 +55,65 @@ fn a_site_is_read_whole(rt: HostRuntime) -> Result<(), Fail> {
 }
 
 #[test]
-fn a_session_is_signed(rt: HostRuntime) -> Result<(), Fail> {
+fn a_session_is_signed_under_its_key(rt: HostRuntime) -> Result<(), Fail> {
     let site = site_of(rt.alloc(), SITE)?;
-    let session = only(&rt, site.opening.sessions.items());
-    assert_eq!(rt; session.text.as_str(), SESSION_TEXT);
-    assert_eq!(rt; session.expire, 1_700_000_001);
+    let sessions = site.opening.sessions.items();
+    assert!(rt; sessions.len() == 2);
+    assert_eq!(rt; sessions[0].text.as_str(), FIRST_TEXT);
+    assert_eq!(rt; sessions[0].expire, 1_700_000_001);
+    assert_eq!(rt; sessions[1].text.as_str(), SECOND_TEXT);
+    assert_eq!(rt; sessions[1].expire, 1_700_500_000);
+    Ok(())
+}
+
+#[test]
+fn origins_are_plain_or_wild(rt: HostRuntime) -> Result<(), Fail> {
+    let alloc = rt.alloc();
+    for (text, scheme, netloc, wild) in [
+        (
+            r#"{"keys":["k"],"trusted_origins":["https://example.org:8443"]}"#,
+            "https",
+            "example.org:8443",
+            false,
+        ),
+        (
+            r#"{"keys":["k"],"trusted_origins":["https://*.example.org"]}"#,
+            "https",
+            ".example.org",
+            true,
+        ),
+        (
+            r#"{"keys":["k"],"trusted_origins":["http://*example.org"]}"#,
+            "http",
+            "*example.org",
+            false,
+        ),
+    ] {
+        let site = site_of(alloc, text)?;
+        let origin = only(&rt, site.settings.trusted.items());
+        assert_eq!(rt; origin.scheme.as_str(), scheme, "{text}");
+        assert_eq!(rt; origin.netloc.as_str(), netloc, "{text}");
+        assert_eq!(rt; origin.wild, wild, "{text}");
+    }
+    Ok(())
+}
+
+#[test]
+fn what_is_secure_is_read(rt: HostRuntime) -> Result<(), Fail> {
+    let alloc = rt.alloc();
+    for (text, proxy_secure, cookie_secure) in [
+        (r#"{"keys":["k"]}"#, false, false),
+        (r#"{"keys":["k"],"proxy_secure":true}"#, true, false),
+        (
+            r#"{"keys":["k"],"proxy_secure":false,"cookie_secure":true}"#,
+            false,
+            true,
+        ),
+    ] {
+        let site = site_of(alloc, text)?;
+        assert_eq!(rt; site.settings.proxy_secure, proxy_secure, "{text}");
+        assert_eq!(rt; site.settings.cookie_secure, cookie_secure, "{text}");
+    }
     Ok(())
 }
 
@@ -126,6 +176,20 @@ fn the_first_wrong_field_is_reported(rt: HostRuntime) {
         ),
         (r#"{"keys":["k"],"allowed_hosts":null}"#, 2),
         (r#"{"keys":["k"],"allowed_hosts":["a",1]}"#, 2),
+        (r#"{"keys":["k"],"trusted_origins":null}"#, 3),
+        (r#"{"keys":["k"],"trusted_origins":"https://a"}"#, 3),
+        (r#"{"keys":["k"],"trusted_origins":[]}"#, 99),
+        (
+            r#"{"keys":["k"],"trusted_origins":["https://a","example.org"]}"#,
+            3,
+        ),
+        (r#"{"keys":["k"],"trusted_origins":["https://a/"]}"#, 3),
+        (r#"{"keys":["k"],"trusted_origins":["https://a?b"]}"#, 3),
+        (r#"{"keys":["k"],"trusted_origins":["https://"]}"#, 3),
+        (
+            r#"{"keys":["k"],"trusted_origins":["a"],"hashers":null}"#,
+            3,
+        ),
         (r#"{"keys":["k"],"hashers":null}"#, 5),
         (r#"{"keys":["k"],"hashers":[]}"#, 5),
         (r#"{"keys":["k"],"hashers":"md5"}"#, 5),
@@ -138,12 +202,21 @@ fn the_first_wrong_field_is_reported(rt: HostRuntime) {
         (r#"{"keys":["k"],"iterations":10000001}"#, 6),
         (r#"{"keys":["k"],"iterations":1000.0}"#, 6),
         (r#"{"keys":["k"],"iterations":"1000"}"#, 6),
+        (r#"{"keys":["k"],"iterations":0,"proxy_secure":1}"#, 6),
+        (r#"{"keys":["k"],"proxy_secure":1}"#, 9),
+        (r#"{"keys":["k"],"proxy_secure":null}"#, 9),
+        (r#"{"keys":["k"],"proxy_secure":0,"cookie_secure":0}"#, 9),
+        (r#"{"keys":["k"],"cookie_secure":"true"}"#, 10),
+        (
+            r#"{"keys":["k"],"cookie_secure":1,"common":["Letmein"]}"#,
+            10,
+        ),
         (r#"{"keys":["k"],"common":["Letmein"]}"#, 11),
         (r#"{"keys":["k"],"common":["letmein",null]}"#, 11),
         (r#"{"keys":["k"],"opening":null}"#, 12),
         (r#"{"keys":["k"],"opening":[]}"#, 12),
         (r#"{"keys":["k"],"opening":{}}"#, 99),
-        (ROTATED_SITE, 12),
+        (SITE, 99),
     ] {
         assert_eq!(rt; wrong_field(alloc, text), field, "{text}");
     }

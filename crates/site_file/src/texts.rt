@@ -47,7 +47,12 @@ fn key_list(alloc: Global, first: &Text, fallbacks: &[Text]) -> Result<Keys, Fie
     list_of_bytes(alloc, first, fallbacks)
 }
 
-fn list_of_bytes(alloc: Global, first: Bytes, fallbacks: Vec<Bytes>) -> Result<Keys, FieldFault>
+/// The key list of these keys.
+pub(crate) fn list_of_bytes(
+    alloc: Global,
+    first: Bytes,
+    fallbacks: Vec<Bytes>,
+) -> Result<Keys, FieldFault>
     ensures ok { IfOk result (λ keys. keys ≡ first ∷ fallbacks.items) }
     ensures keys { IfOk result IsKeys }
     ensures form { IsErrOf result FieldFault.Form → ¬ IsKeys (first ∷ fallbacks.items) }

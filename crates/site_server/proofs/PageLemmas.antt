@@ -1,5 +1,5 @@
 -- The page of `/whoami/` names the user whom the load at its entry's index admits.
-use Rattle.std.proofs.Common.{◌≡◌, ℕ, zero, suc, ◌+◌, List, [], ◌∷◌, ◌++◌, length, Option, Some, None, refl, sym, ap, ◌∙◌, subst, arith, append_assoc, add-zero, option_map, inl, inr, nat_lt}
+use Rattle.std.proofs.Common.{◌≡◌, ℕ, zero, suc, ◌+◌, Bool, true, false, if◌then◌else◌, is_some, List, [], ◌∷◌, ◌++◌, length, Option, Some, None, refl, sym, ap, ◌∙◌, subst, arith, append_assoc, add-zero, option_map, inl, inr, nat_lt}
 use Rattle.std.specs.Prelude.{codes}
 use Rattle.std.proofs.lemmas.List.{append_cancel_left, append_cancel_right}
 use Rattle.ledger_rows.specs.Admission.{IsAdmitted, found_user, verdict_of}
@@ -24,7 +24,7 @@ use Rattle.middleware_chain.specs.Begun.{begun_of}
 use Rattle.middleware_chain.specs.declared.begun.Begun.{Begun}
 use Rattle.middleware_chain.specs.declared.begun.Begun.TheVariants.{Answer, Go}
 use Rattle.middleware_chain.specs.declared.settings.Settings.{Settings}
-use Rattle.account_views.specs.Handler.{facts_of, script_of}
+use Rattle.account_views.specs.Handler.{after_load, facts_of, has_view, no_view, script_of}
 use Rattle.account_views.specs.Script.{Steps, Return, Ask}
 use Rattle.account_views.specs.Visit.{user_of}
 use Rattle.account_views.specs.Walk.{Leads}
@@ -48,7 +48,13 @@ body_of : (facts : Facts) (begun : Begun) (cookie : Option (List ℕ)) (now : �
     → Leads (script_of facts begun) (record { op = Load cookie now; reply = reply } ∷ []) (Return response) → response.body ≡ user_line (user_of reply)
 unfolding body_in
 body_of facts (Answer page) cookie now reply response leads = absurd leads
-body_of facts (Go came) cookie now reply response (asked, done) = ap (λ (s : Steps Response). body_in s) done
+body_of facts (Go context) cookie now reply response leads = on (has_view context.route) leads
+  where
+    on : (viewed : Bool)
+        → Leads (if viewed then Ask (Load context.session facts.moment) (after_load facts (is_some context.session)) else no_view facts) (record { op = Load cookie now; reply = reply } ∷ []) (Return response)
+        → response.body ≡ user_line (user_of reply)
+    on true (asked, done) = ap (λ (s : Steps Response). body_in s) done
+    on false leads = absurd leads
 
 -- ---- the turn of a request's first step
 

@@ -1,27 +1,13 @@
-//! Paths with and without their last slash.
+//! Where a path without its last slash is redirected to.
 
 ghost use Rattle.std.specs.Prelude.{◌≡◌, IfOk};
-ghost use Rattle.middleware_chain.specs.SlashRedirect.{is_route, lacks_slash, slash_target};
+ghost use Rattle.middleware_chain.specs.SlashTarget.{slash_target};
 
 use crypto_text::Text;
 use http_edge::Request;
 use std::alloc::{AllocError, Global};
 
-/// Whether a route has this path.
-pub fn is_route(path: &str) -> bool
-    ensures { result ≡ is_route path.now }
-{
-    path == "/whoami/"
-}
-
-/// Whether a route has this path with a slash after it.
-pub fn lacks_slash(path: &str) -> bool
-    ensures { result ≡ lacks_slash path.now }
-{
-    path == "/whoami"
-}
-
-/// Where such a request is sent.
+/// The path with its last slash, and the query.
 pub fn slash_target(alloc: Global, request: &Request) -> Result<Text, AllocError>
     ensures { IfOk result (λ text. text ≡ slash_target request.now) }
 {

@@ -1,14 +1,6 @@
 -- Where a path without its last slash is redirected to, as by Django's `APPEND_SLASH`.
-use Rattle.std.specs.Prelude.{ℕ, Bool, bytes_eq, if◌then◌else◌, List, [], ◌++◌, codes}
+use Rattle.std.specs.Prelude.{ℕ, Bool, if◌then◌else◌, List, [], ◌++◌, codes}
 use Rattle.http_edge.specs.declared.request.Request.{Request}
-
--- the one route
-abbrev pub is_route : List ℕ → Bool
-is_route path = bytes_eq path (codes "/whoami/")
-
--- the path is that of the route without its last slash
-abbrev pub lacks_slash : List ℕ → Bool
-lacks_slash path = bytes_eq path (codes "/whoami")
 
 -- the query with its question mark, where the target has one
 abbrev pub query_part : Bool → List ℕ → List ℕ
