@@ -41,11 +41,12 @@ begun_of-is P settings r is_refused goes =
     by : (route : Route) (verdict : Result (Unit {0}) CsrfReason) → P (begun_by verdict route r)
     by route (Ok done) = goes route
     by route (Err reason) = is_refused (Csrf reason)
+
     on : (route : Option Route) → P (begun_on settings r route)
     on None = is_refused NoRoute
     on (Some route) =
-      either P (not (takes (methods_of route) r.method)) _ _ (is_refused (OtherMethod (methods_of route)))
-      (either P (has_too_many_fields r) _ _ (is_refused TooManyFields) (by route (csrf_verdict (csrf_view settings r (body_fields r)))))
+        either P (not (takes (methods_of route) r.method)) _ _ (is_refused (OtherMethod (methods_of route)))
+        (either P (has_too_many_fields r) _ _ (is_refused TooManyFields) (by route (csrf_verdict (csrf_view settings r (body_fields r)))))
 
 pub begun_of-status : (settings : Settings) (r : Request) → HasStatus (begun_of settings r)
 begun_of-status settings r = begun_of-is HasStatus settings r (λ refusal. refused-status refusal r) (λ route. tt)

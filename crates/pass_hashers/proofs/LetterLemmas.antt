@@ -34,15 +34,15 @@ letter-below place lt = ltb-true _ 127 (agree_below_at (λ k. nat_lt (get_or let
 
 letter-IsSaltByte : (place : ℕ) → place < length letters62 → IsSaltByte (get_or letters62 place 0)
 letter-IsSaltByte place lt =
-  let above = letter-above place lt in
-  let below = letter-below place lt in
-  (omega arith, omega arith, λ is_dollar. omega arith)
+    let above = letter-above place lt in
+    let below = letter-below place lt in
+    (omega arith, omega arith, λ is_dollar. omega arith)
 
 -- random letters are bytes of a salt, and as many as there are words
 pub random_letters_are_salt : RandomLettersAreSalt
 unfolding IsSalt
 random_letters_are_salt words some most below =
-  let letters = AreLetters-random_text letters62 words (omega (arith, length-letters62)) below in
-  let count : length (random_text letters62 words) ≡ length words = length-map words (letter_for letters62) in
-  let all = All-from_get_or IsSaltByte letters62 0 letter-IsSaltByte in
-  (omega (arith, count), omega (arith, count), λ k d lt. All-contains IsSaltByte letters62 _ all (letters k d lt))
+    let letters = AreLetters-random_text letters62 words (omega (arith, length-letters62)) below in
+    let count : length (random_text letters62 words) ≡ length words = length-map words (letter_for letters62) in
+    let all = All-from_get_or IsSaltByte letters62 0 letter-IsSaltByte in
+    (omega (arith, count), omega (arith, count), λ k d lt. All-contains IsSaltByte letters62 _ all (letters k d lt))
