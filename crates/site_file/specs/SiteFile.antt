@@ -98,6 +98,10 @@ preferred_of (algo ∷ rest) iterations = hasher_of algo iterations
 unfoldable pub cfg_of : List Algo → ℕ → Cfg
 cfg_of installed iterations = record { engine = Db; backends = Model ∷ []; installed = installed; preferred = preferred_of installed iterations }
 
+-- a field is wrong by its number: it says nothing
+abbrev pub IsWrongField : {A : Type 0} → ℕ → ℕ → (A → Type 0) → Type 0
+IsWrongField {A} field number IsSaid = (field ≡ number) × ((x : A) → ¬ IsSaid x)
+
 -- what a file says: the number of its first wrong field, or the site
 pub data Site : Type 0 where
   Wrong : ℕ → Site

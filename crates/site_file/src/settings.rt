@@ -10,7 +10,7 @@ ghost use Rattle.ledger_rows.specs.Form.{IsCfg};
 ghost use Rattle.ledger_rows.specs.Opening.{IsOpening};
 ghost use Rattle.ledger_rows.specs.declared.rows.Opening.{Opening};
 ghost use Rattle.site_file.specs.OpeningForm.{IsOpeningOf};
-ghost use Rattle.site_file.specs.SiteFile.{AreCommonOf, AreHashersOf, AreHostsOf, AreIterationsOf, AreKeysOf, AreOriginsOf, IsSaidBy, IsSaidByFields, IsSiteOf, IsTruthOf, Says, Wrong, field_names};
+ghost use Rattle.site_file.specs.SiteFile.{AreCommonOf, AreHashersOf, AreHostsOf, AreIterationsOf, AreKeysOf, AreOriginsOf, IsSaidBy, IsSaidByFields, IsSiteOf, IsTruthOf, IsWrongField, Says, Wrong, field_names};
 ghost use Rattle.site_file.specs.Fields.{has_only};
 
 use crate::fields::{FieldFault, has_only, truth_of};
@@ -146,7 +146,7 @@ fn said_by_fields(alloc: Global, value: &Value) -> Result<SettingsAll, SettingsF
 
 fn keys_field(alloc: Global, value: &Value) -> Result<Keys, SettingsFault>
     ensures ok { IfOk result (AreKeysOf (get (codes "keys") (view value.now))) }
-    ensures wrong { (field : ℕ) → IsErrOf result (SettingsFault.Wrong field) → (field ≡ 1) × ((keys : List (List ℕ)) → ¬ AreKeysOf (get (codes "keys") (view value.now)) keys) }
+    ensures wrong { (field : ℕ) → IsErrOf result (SettingsFault.Wrong field) → IsWrongField field 1 (AreKeysOf (get (codes "keys") (view value.now))) }
 {
     match keys_of(alloc, value.get("keys")) {
         Ok(keys) => Ok(keys),
@@ -156,7 +156,7 @@ fn keys_field(alloc: Global, value: &Value) -> Result<Keys, SettingsFault>
 
 fn hosts_field(alloc: Global, value: &Value) -> Result<TextList, SettingsFault>
     ensures ok { IfOk result (AreHostsOf (get (codes "allowed_hosts") (view value.now))) }
-    ensures wrong { (field : ℕ) → IsErrOf result (SettingsFault.Wrong field) → (field ≡ 2) × ((hosts : List (List ℕ)) → ¬ AreHostsOf (get (codes "allowed_hosts") (view value.now)) hosts) }
+    ensures wrong { (field : ℕ) → IsErrOf result (SettingsFault.Wrong field) → IsWrongField field 2 (AreHostsOf (get (codes "allowed_hosts") (view value.now))) }
 {
     match hosts_of(alloc, value.get("allowed_hosts")) {
         Ok(hosts) => Ok(hosts),
@@ -166,7 +166,7 @@ fn hosts_field(alloc: Global, value: &Value) -> Result<TextList, SettingsFault>
 
 fn origins_field(alloc: Global, value: &Value) -> Result<RowList<Trusted>, SettingsFault>
     ensures ok { IfOk result (AreOriginsOf (get (codes "trusted_origins") (view value.now))) }
-    ensures wrong { (field : ℕ) → IsErrOf result (SettingsFault.Wrong field) → (field ≡ 3) × ((trusted : List Trusted) → ¬ AreOriginsOf (get (codes "trusted_origins") (view value.now)) trusted) }
+    ensures wrong { (field : ℕ) → IsErrOf result (SettingsFault.Wrong field) → IsWrongField field 3 (AreOriginsOf (get (codes "trusted_origins") (view value.now))) }
 {
     match origins_of(alloc, value.get("trusted_origins")) {
         Ok(trusted) => Ok(trusted),
@@ -177,7 +177,7 @@ fn origins_field(alloc: Global, value: &Value) -> Result<RowList<Trusted>, Setti
 fn hashers_field(alloc: Global, value: &Value) -> Result<Vec<Algo>, SettingsFault>
     ensures ok { IfOk result (λ installed. AreHashersOf (get (codes "hashers") (view value.now)) installed.items) }
     ensures some { IfOk result (λ installed. 1 ≤ length installed.items) }
-    ensures wrong { (field : ℕ) → IsErrOf result (SettingsFault.Wrong field) → (field ≡ 5) × ((installed : List Algo) → ¬ AreHashersOf (get (codes "hashers") (view value.now)) installed) }
+    ensures wrong { (field : ℕ) → IsErrOf result (SettingsFault.Wrong field) → IsWrongField field 5 (AreHashersOf (get (codes "hashers") (view value.now))) }
 {
     match hashers_of(alloc, value.get("hashers")) {
         Ok(installed) => Ok(installed),
@@ -188,7 +188,7 @@ fn hashers_field(alloc: Global, value: &Value) -> Result<Vec<Algo>, SettingsFaul
 fn iterations_field(value: &Value) -> Result<u32, SettingsFault>
     ensures ok { IfOk result (AreIterationsOf (get (codes "iterations") (view value.now))) }
     ensures allowed { IfOk result AreIterations }
-    ensures wrong { (field : ℕ) → IsErrOf result (SettingsFault.Wrong field) → (field ≡ 6) × ((iterations : ℕ) → ¬ AreIterationsOf (get (codes "iterations") (view value.now)) iterations) }
+    ensures wrong { (field : ℕ) → IsErrOf result (SettingsFault.Wrong field) → IsWrongField field 6 (AreIterationsOf (get (codes "iterations") (view value.now))) }
 {
     match iterations_of(value.get("iterations")) {
         Ok(iterations) => Ok(iterations),
@@ -198,7 +198,7 @@ fn iterations_field(value: &Value) -> Result<u32, SettingsFault>
 
 fn truth_field(value: &Value, name: &str, number: u32) -> Result<bool, SettingsFault>
     ensures ok { IfOk result (IsTruthOf (get name.now (view value.now))) }
-    ensures wrong { (field : ℕ) → IsErrOf result (SettingsFault.Wrong field) → (field ≡ number) × ((truth : Bool) → ¬ IsTruthOf (get name.now (view value.now)) truth) }
+    ensures wrong { (field : ℕ) → IsErrOf result (SettingsFault.Wrong field) → IsWrongField field number (IsTruthOf (get name.now (view value.now))) }
 {
     match truth_of(value.get(name)) {
         Ok(truth) => Ok(truth),
@@ -208,7 +208,7 @@ fn truth_field(value: &Value, name: &str, number: u32) -> Result<bool, SettingsF
 
 fn common_field(alloc: Global, value: &Value) -> Result<TextList, SettingsFault>
     ensures ok { IfOk result (AreCommonOf (get (codes "common") (view value.now))) }
-    ensures wrong { (field : ℕ) → IsErrOf result (SettingsFault.Wrong field) → (field ≡ 11) × ((common : List (List ℕ)) → ¬ AreCommonOf (get (codes "common") (view value.now)) common) }
+    ensures wrong { (field : ℕ) → IsErrOf result (SettingsFault.Wrong field) → IsWrongField field 11 (AreCommonOf (get (codes "common") (view value.now))) }
 {
     match common_of(alloc, value.get("common")) {
         Ok(common) => Ok(common),
@@ -219,7 +219,7 @@ fn common_field(alloc: Global, value: &Value) -> Result<TextList, SettingsFault>
 fn opening_field(alloc: Global, keys: Keys, value: &Value) -> Result<Opening, SettingsFault>
     ensures ok { IfOk result (IsOpeningOf keys (get (codes "opening") (view value.now))) }
     ensures opening { IfOk result (λ opening. IsOpening opening) }
-    ensures wrong { (field : ℕ) → IsErrOf result (SettingsFault.Wrong field) → (field ≡ 12) × ((opening : Opening) → ¬ IsOpeningOf keys (get (codes "opening") (view value.now)) opening) }
+    ensures wrong { (field : ℕ) → IsErrOf result (SettingsFault.Wrong field) → IsWrongField field 12 (IsOpeningOf keys (get (codes "opening") (view value.now))) }
 {
     match opening_of(alloc, keys, value.get("opening")) {
         Ok(opening) => Ok(opening),
