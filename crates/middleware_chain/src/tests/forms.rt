@@ -14,7 +14,10 @@ const COOKIE: &str = "csrftoken=aaaaaaaaaaaaaaaaaaaaaaaaaaaaaaaa";
 
 const TRUSTED: &str = "https://a.example.org/x";
 
-fn sent_forms() -> [Sent; 6] {
+/// The secret of nines under a mask of `b`.
+const MASKED: &str = "csrftoken=bbbbbbbbbbbbbbbbbbbbbbbbbbbbbbbbaaaaaaaaaaaaaaaaaaaaaaaaaaaaaaaa";
+
+fn sent_forms() -> [Sent; 10] {
     [
         (None, None, "", Some("no-referer")),
         (
@@ -24,7 +27,31 @@ fn sent_forms() -> [Sent; 6] {
             Some("insecure-referer"),
         ),
         (Some(TRUSTED), None, "", Some("no-cookie")),
+        (
+            Some(TRUSTED),
+            Some("csrftoken=aaaaaaaaaaaaaaaaaaaaaaaaaaaaaaaaaaaaaaaaaaaaaaaaaaaaaaaaaaaaaaa"),
+            "",
+            Some("cookie-length"),
+        ),
+        (
+            Some(TRUSTED),
+            Some("csrftoken=aaaaaaaaaaaaaaaaaaaaaaaaaaaaaaaaaaaaaaaaaaaaaaaaaaaaaaaaaaaaaaa-"),
+            "",
+            Some("cookie-characters"),
+        ),
         (Some(TRUSTED), Some(COOKIE), "a=b", Some("token-missing")),
+        (
+            Some(TRUSTED),
+            Some(MASKED),
+            "csrfmiddlewaretoken=aaaaaaaaaaaaaaaaaaaaaaaaaaaaaaaa",
+            Some("token-incorrect"),
+        ),
+        (
+            Some(TRUSTED),
+            Some(MASKED),
+            "csrfmiddlewaretoken=99999999999999999999999999999999",
+            None,
+        ),
         (
             Some(TRUSTED),
             Some(COOKIE),
