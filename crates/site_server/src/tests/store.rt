@@ -42,24 +42,62 @@ fn first_wrong(
     first: usize,
     end: usize,
 ) -> Result<Option<usize>, AllocError> {
-    let keeper = MemKeeper::new(alloc, Ids::of(alloc, &[fail_at])?);
-    let Some(ledger) = opened(alloc, keeper)? else {
-        return Ok(Some(end));
-    };
-    let mut ledger = ledger;
+    let fails = Ids::of(alloc, &[fail_at])?;
+    let keeper = MemKeeper::new(alloc, fails);
+    match steps_over(alloc, keeper, first, end)? {
+        Some((None, keeper)) => first_missing(alloc, keeper.entries(), first, end),
+        Some((wrong, _)) => Ok(wrong),
+        None => Ok(Some(end)),
+    }
+}
+
+// Generic over the keeper, so that no proof unfolds the one in memory.
+fn steps_over<K: Keeper>(
+    alloc: Global,
+    keeper: K,
+    first: usize,
+    end: usize,
+) -> Result<Option<(Option<usize>, K)>, AllocError> {
+    match opened(alloc, keeper)? {
+        Some(ledger) => {
+            let mut ledger = ledger;
+            let wrong = first_wrong_answer(alloc, &mut ledger, first, end)?;
+            Ok(Some((wrong, ledger.close())))
+        }
+        None => Ok(None),
+    }
+}
+
+fn first_wrong_answer<K: Keeper>(
+    alloc: Global,
+    ledger: &mut Ledger<K>,
+    first: usize,
+    end: usize,
+) -> Result<Option<usize>, AllocError> {
     for at in first..end {
         let op = operation(alloc, at)?;
-        if !is_answered(alloc, &mut ledger, &op, &reply(alloc, at)?)? {
-            return Ok(Some(at));
-        }
-    }
-    let keeper = ledger.close();
-    for at in first..end {
-        if !is_entered(alloc, keeper.entries().get(at - first + 1), at)? {
+        let due = reply(alloc, at)?;
+        if !is_answered(alloc, ledger, &op, &due)? {
             return Ok(Some(at));
         }
     }
     Ok(None)
+}
+
+// The first entry is that of the start.
+fn first_missing(
+    alloc: Global,
+    entries: &[Entry],
+    first: usize,
+    end: usize,
+) -> Result<Option<usize>, AllocError> {
+    let mut found = entries.iter().skip(1);
+    for at in first..end {
+        if !is_entered(alloc, found.next(), at)? {
+            return Ok(Some(at));
+        }
+    }
+    Ok(found.next().map(|_| end))
 }
 
 fn opened<K: Keeper>(alloc: Global, keeper: K) -> Result<Option<Ledger<K>>, AllocError> {
@@ -170,7 +208,7 @@ fn rotate(alloc: Global, key: &[u8]) -> Result<Op, AllocError> {
 fn load_at(alloc: Global, cookie: &str, seconds: u64) -> Result<Op, AllocError> {
     Ok(Op::Load {
         cookie: Some(text_of(alloc, cookie)?),
-        now: NOW + seconds,
+        now: NOW.saturating_add(seconds),
     })
 }
 
