@@ -1,15 +1,18 @@
 -- What a keeper of the store reports of itself, and what its calls do to that.
-use Rattle.std.specs.Prelude.{◌≡◌, ◌≢◌, ◌+◌, ℕ, List, [], ◌∷◌, ◌++◌, fold, length, Result, Ok, Err, IfOk, ⊤}
+use Rattle.std.specs.Prelude.{◌≡◌, ◌≢◌, ◌+◌, ℕ, max, List, [], ◌∷◌, ◌++◌, fold, length, Result, Ok, Err, IfOk, ⊤}
+use Rattle.crypto_text.specs.TextList.{AreDifferent}
 use Rattle.outside.specs.Faults.{Rose}
-use Rattle.ledger_rows.specs.Tables.{Tables, opening_tables, put_session, without_session}
+use Rattle.ledger_rows.specs.Opening.{names_of_users}
+use Rattle.ledger_rows.specs.Tables.{Tables, opening_tables, put_mail, put_session, put_user, without_mail, without_session}
 use Rattle.ledger_rows.specs.SessionSteps.{without_expired}
-use Rattle.ledger_rows.specs.Rows.{IsNumber, IsSoundSession}
+use Rattle.ledger_rows.specs.Rows.{AreInOrder, IsNumber, IsSoundMail, IsSoundSession, IsSoundUser}
 use Rattle.ledger_rows.specs.declared.entry.Entry.{Entry}
 use Rattle.ledger_rows.specs.declared.rows.Opening.{Opening}
 use Rattle.keepers.specs.declared.change.Change.{Change}
-use Rattle.keepers.specs.declared.change.Change.TheVariants.{DropExpired, DropSession, PutBoot, PutKeys, PutSession}
+use Rattle.keepers.specs.declared.change.Change.TheVariants.{DropExpired, DropMail, DropSession, PutBoot, PutKeys, PutMail, PutSession, PutUser}
 use Rattle.keepers.specs.declared.keeper.KeeperFault.{KeeperFault}
 use Rattle.keepers.specs.declared.keeper.KeeperFault.TheVariants.{Failed, Memory}
+use Rattle.keepers.specs.declared.keeper.NextIds.{NextIds}
 
 -- what a store holds: what it began with, its tables now, and its audit list
 pub record Contents : Type 0 where
@@ -77,6 +80,14 @@ OnlyReads old new (Err fault) = IsRefused old new fault
 abbrev pub Answers : {T : Type 0} → Kept → Result T KeeperFault → (Tables → T) → Type 0
 Answers kept result value_in = IfOk result (λ value. OnHolding kept.report (λ contents. value ≡ value_in contents.tables))
 
+-- the rows are in order, where they are reported
+abbrev pub IsOrdered : Report → Type 0
+IsOrdered report = OnHolding report (λ contents. AreInOrder contents.tables)
+
+-- the ids that the next user and the next mail get
+abbrev pub next_ids_of : Tables → NextIds
+next_ids_of tables = record { user = tables.next_user; mail = tables.next_mail }
+
 -- a new store holds its opening rows and no entry
 abbrev pub opened : Opening → Contents
 opened opening = record { opening = opening; tables = opening_tables opening; entries = [] }
@@ -97,12 +108,23 @@ abbrev pub changed : Tables → Change → Tables
 changed tables (PutSession row) = record tables { sessions = put_session tables.sessions row }
 changed tables (DropSession key) = record tables { sessions = without_session tables.sessions key }
 changed tables (DropExpired now) = record tables { sessions = without_expired tables.sessions now }
+changed tables (PutUser row) = record tables { users = put_user tables.users row; next_user = max tables.next_user (row.id + 1) }
+changed tables (PutMail row) = record tables { mails = put_mail tables.mails row; next_mail = max tables.next_mail (row.id + 1) }
+changed tables (DropMail id) = record tables { mails = without_mail tables.mails id }
 changed tables (PutKeys keys) = record tables { keys = keys }
 changed tables (PutBoot boot) = record tables { boot = boot }
 
 -- the tables with all changes, made in order
 abbrev pub changed_by : List Change → Tables → Tables
 changed_by changes tables = fold changed tables changes
+
+-- the changes leave no two users of one name, if the rows are in order before
+abbrev pub KeepsNamesOf : List Change → Tables → Type 0
+KeepsNamesOf changes tables = AreInOrder tables → AreDifferent (names_of_users (changed_by changes tables).users)
+
+-- the changes leave no two users of one name, where the rows are reported
+abbrev pub KeepsNames : List Change → Report → Type 0
+KeepsNames changes report = OnHolding report (λ contents. KeepsNamesOf changes contents.tables)
 
 -- the changes were made and the entry was appended
 abbrev pub appended : Entry → List Change → Contents → Contents
@@ -126,5 +148,8 @@ abbrev pub IsSoundChange : Change → Type 0
 IsSoundChange (PutSession row) = IsSoundSession row
 IsSoundChange (DropSession key) = ⊤
 IsSoundChange (DropExpired now) = ⊤
+IsSoundChange (PutUser row) = IsSoundUser row
+IsSoundChange (PutMail row) = IsSoundMail row
+IsSoundChange (DropMail id) = ⊤
 IsSoundChange (PutKeys keys) = ⊤
 IsSoundChange (PutBoot boot) = IsNumber boot

@@ -3,3 +3,4 @@ pub mod Keeper
 pub mod MemoryKeeper
 pub mod MemoryStore
 pub mod MemoryTables
+pub mod SortedRows

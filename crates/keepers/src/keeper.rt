@@ -1,15 +1,17 @@
 //! Where the tables and the audit list are kept.
 
 ghost use Rattle.std.specs.Prelude.{◌≡◌, ◌≤◌, ◌<◌, ◌^◌, ◌↔◌, All, IfOk, IfSome, IsNone, IsTrue, MatchBool};
+ghost use Rattle.std.specs.List.Sorted.{IsStrictlyIncreasing};
 ghost use Rattle.ledger_rows.specs.History.{entry_at};
-ghost use Rattle.ledger_rows.specs.Opening.{IsOpening};
-ghost use Rattle.ledger_rows.specs.Rows.{IsNumber, IsSoundSession, IsSoundUser};
+ghost use Rattle.ledger_rows.specs.Opening.{IsOpening, ids_of_groups, ids_of_perms, ids_of_users};
+ghost use Rattle.ledger_rows.specs.Rows.{IsNumber, IsSoundGroup, IsSoundMail, IsSoundPerm, IsSoundSession, IsSoundUser};
 ghost use Rattle.ledger_rows.specs.SessionSteps.{count_expired};
-ghost use Rattle.ledger_rows.specs.Tables.{session_of, user_of};
-ghost use Rattle.keepers.specs.Keeper.{Answers, Commits, Installs, IsCounted, IsSoundChange, Kept, MayBeFresh, MayHold, OnHolding, OnlyReads};
+ghost use Rattle.ledger_rows.specs.Tables.{first_mail, session_of, user_named, user_of, users_of_email};
+ghost use Rattle.keepers.specs.Keeper.{Answers, Commits, Installs, IsCounted, IsOrdered, IsSoundChange, KeepsNames, Kept, MayBeFresh, MayHold, OnHolding, OnlyReads, next_ids_of};
 
 use crate::change::Change;
-use ledger_rows::{Entry, Opening, SessionRow, UserRow};
+use ledger_rows::{Entry, MailRow, Opening, RowList, SessionRow, UserRow};
+use permissions::{GroupRow, PermRow};
 use signing_core::Keys;
 use std::alloc::{AllocError, Global};
 use thiserror::Error;
@@ -33,6 +35,13 @@ impl From<AllocError> for KeeperFault {
     fn from(_: AllocError) -> KeeperFault {
         KeeperFault::Memory
     }
+}
+
+/// The ids that the next user and the next mail get.
+#[derive(Clone, Copy, Debug, PartialEq, Eq)]
+pub struct NextIds {
+    pub user: u64,
+    pub mail: u64,
 }
 
 /// Keeps the tables and the audit list. A refused call leaves both as they were, and each step is kept
@@ -72,6 +81,44 @@ pub trait Keeper: Drop {
         ensures value { Answers (seen self.old) result (λ tables. user_of tables.users id) }
         ensures asked { IfOk result (λ row. IfSome row (λ user. user.id ≡ id)) }
         ensures sound { IfOk result (λ row. IfSome row IsSoundUser) }
+        ensures ordered { IfOk result (λ _. IsOrdered (seen self.old).report) }
+        ensures reads { OnlyReads (seen self.old) (seen self.new) result };
+
+    /// The user of a name.
+    fn user_by_name(&mut self, alloc: Global, name: &str) -> Result<Option<UserRow>, KeeperFault>
+        requires { MayHold (seen self.old).report }
+        ensures value { Answers (seen self.old) result (λ tables. user_named tables.users name.now) }
+        ensures asked { IfOk result (λ row. IfSome row (λ user. user.name ≡ name.now)) }
+        ensures sound { IfOk result (λ row. IfSome row IsSoundUser) }
+        ensures ordered { IfOk result (λ _. IsOrdered (seen self.old).report) }
+        ensures reads { OnlyReads (seen self.old) (seen self.new) result };
+
+    /// The users of an address in whatever case, in the order of their ids.
+    fn users_by_email(
+        &mut self,
+        alloc: Global,
+        email: &str,
+    ) -> Result<RowList<UserRow>, KeeperFault>
+        requires { MayHold (seen self.old).report }
+        ensures value { Answers (seen self.old) result (λ tables. users_of_email tables.users email.now) }
+        ensures sound { IfOk result (λ rows. All IsSoundUser rows) }
+        ensures order { IfOk result (λ rows. IsStrictlyIncreasing (ids_of_users rows)) }
+        ensures reads { OnlyReads (seen self.old) (seen self.new) result };
+
+    /// All groups, in the order of their ids.
+    fn groups(&mut self, alloc: Global) -> Result<RowList<GroupRow>, KeeperFault>
+        requires { MayHold (seen self.old).report }
+        ensures value { Answers (seen self.old) result (λ tables. tables.groups) }
+        ensures sound { IfOk result (λ rows. All IsSoundGroup rows) }
+        ensures order { IfOk result (λ rows. IsStrictlyIncreasing (ids_of_groups rows)) }
+        ensures reads { OnlyReads (seen self.old) (seen self.new) result };
+
+    /// All permissions, in the order of their ids.
+    fn perms(&mut self, alloc: Global) -> Result<RowList<PermRow>, KeeperFault>
+        requires { MayHold (seen self.old).report }
+        ensures value { Answers (seen self.old) result (λ tables. tables.perms) }
+        ensures sound { IfOk result (λ rows. All IsSoundPerm rows) }
+        ensures order { IfOk result (λ rows. IsStrictlyIncreasing (ids_of_perms rows)) }
         ensures reads { OnlyReads (seen self.old) (seen self.new) result };
 
     /// The session of a key.
@@ -86,6 +133,20 @@ pub trait Keeper: Drop {
     fn count_expired(&mut self, now: u64) -> Result<u64, KeeperFault>
         requires { MayHold (seen self.old).report }
         ensures value { Answers (seen self.old) result (λ tables. count_expired tables.sessions now) }
+        ensures reads { OnlyReads (seen self.old) (seen self.new) result };
+
+    /// The first of the mails, which are in the order of their ids.
+    fn oldest_mail(&mut self, alloc: Global) -> Result<Option<MailRow>, KeeperFault>
+        requires { MayHold (seen self.old).report }
+        ensures value { Answers (seen self.old) result (λ tables. first_mail tables.mails) }
+        ensures sound { IfOk result (λ row. IfSome row IsSoundMail) }
+        ensures reads { OnlyReads (seen self.old) (seen self.new) result };
+
+    /// The ids that the next user and the next mail get.
+    fn next_ids(&mut self) -> Result<NextIds, KeeperFault>
+        requires { MayHold (seen self.old).report }
+        ensures value { Answers (seen self.old) result next_ids_of }
+        ensures ordered { IfOk result (λ _. IsOrdered (seen self.old).report) }
         ensures reads { OnlyReads (seen self.old) (seen self.new) result };
 
     /// The entry of the audit list at an index, counted from 0.
@@ -105,6 +166,7 @@ pub trait Keeper: Drop {
         requires holds { MayHold (seen self.old).report }
         requires room { (seen self.old).entry_count < 2 ^ 62 }
         requires sound { All IsSoundChange changes.now }
+        requires names { KeepsNames changes.now (seen self.old).report }
         ensures { Commits entry.now changes.now (seen self.old) (seen self.new) result };
 
     /// How many entries the audit list has.

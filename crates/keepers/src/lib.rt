@@ -6,10 +6,12 @@
 mod change;
 mod keeper;
 mod memory_keeper;
+mod memory_rows;
 mod memory_tables;
+mod sorted_rows;
 #[cfg(test)]
 mod tests;
 
 pub use crate::change::Change;
-pub use crate::keeper::{Keeper, KeeperFault};
+pub use crate::keeper::{Keeper, KeeperFault, NextIds};
 pub use crate::memory_keeper::MemKeeper;

@@ -1,20 +1,22 @@
 //! A keeper in memory, which reports all that it holds.
 
 ghost use Rattle.std.specs.Prelude.{◌≡◌, ◌≤◌, ◌<◌, ◌^◌, ◌↔◌, All, ◌++◌, [], ◌∷◌, Contains, IfOk, IfSome, IsErr, IsErrOf, IsNone, IsTrue, MatchBool, None, OnErr, OnOk, length};
+ghost use Rattle.std.specs.List.Sorted.{IsStrictlyIncreasing};
 ghost use Rattle.outside.specs.Faults.{one_more};
 ghost use Rattle.ledger_rows.specs.History.{entry_at};
-ghost use Rattle.ledger_rows.specs.Opening.{IsOpening};
-ghost use Rattle.ledger_rows.specs.Rows.{IsNumber, IsSoundSession, IsSoundUser};
+ghost use Rattle.ledger_rows.specs.Opening.{IsOpening, ids_of_groups, ids_of_perms, ids_of_users};
+ghost use Rattle.ledger_rows.specs.Rows.{IsNumber, IsSoundGroup, IsSoundMail, IsSoundPerm, IsSoundSession, IsSoundUser};
 ghost use Rattle.ledger_rows.specs.SessionSteps.{count_expired};
-ghost use Rattle.ledger_rows.specs.Tables.{opening_tables, session_of, user_of};
-ghost use Rattle.keepers.specs.Keeper.{Answers, Commits, Installs, IsSoundChange, MayBeFresh, MayHold, OnHolding, OnlyReads, changed_by, unused};
+ghost use Rattle.ledger_rows.specs.Tables.{first_mail, opening_tables, session_of, user_named, user_of, users_of_email};
+ghost use Rattle.keepers.specs.Keeper.{Answers, Commits, Installs, IsOrdered, IsSoundChange, KeepsNames, KeepsNamesOf, MayBeFresh, MayHold, OnHolding, OnlyReads, changed_by, next_ids_of, unused};
 ghost use Rattle.keepers.specs.MemoryKeeper.{HasCalled, entry_count_of, kept_of, report_of};
 
 use crate::change::Change;
-use crate::keeper::{Keeper, KeeperFault};
+use crate::keeper::{Keeper, KeeperFault, NextIds};
 use crate::memory_tables::MemTables;
 use crypto_text::Ids;
-use ledger_rows::{Entry, Opening, SessionRow, UserRow};
+use ledger_rows::{Entry, MailRow, Opening, RowList, SessionRow, UserRow};
+use permissions::{GroupRow, PermRow};
 use signing_core::Keys;
 use std::alloc::{AllocError, Global};
 use std::collections::VecDeque;
@@ -124,7 +126,8 @@ impl Store {
 
     // The room for the entry comes first, so that a refusal changes nothing.
     fn commit(&mut self, entry: Entry, changes: VecDeque<Change>) -> Result<(), AllocError>
-        requires { All IsSoundChange changes.items }
+        requires sound { All IsSoundChange changes.items }
+        requires names { KeepsNamesOf changes.items self.old.tables }
         ensures ok { OnOk result (contents_of self.new ≡ appended entry changes.items (contents_of self.old)) }
         ensures err { OnErr result (contents_of self.new ≡ contents_of self.old) }
     {
@@ -197,12 +200,78 @@ impl Keeper for MemKeeper {
         ensures value { Answers (kept_of self.old) result (λ tables. user_of tables.users id) }
         ensures asked { IfOk result (λ row. IfSome row (λ user. user.id ≡ id)) }
         ensures sound { IfOk result (λ row. IfSome row IsSoundUser) }
+        ensures ordered { IfOk result (λ _. IsOrdered (kept_of self.old).report) }
         ensures reads { OnlyReads (kept_of self.old) (kept_of self.new) result }
         ensures call { HasCalled self.old self.new result }
     {
         self.calls.pass()?;
         match &self.store {
             Some(store) => Ok(store.tables.user_by_id(alloc, id)?),
+            None => unreachable!(),
+        }
+    }
+
+    fn user_by_name(&mut self, alloc: Global, name: &str) -> Result<Option<UserRow>, KeeperFault>
+        requires { MayHold (kept_of self.old).report }
+        ensures value { Answers (kept_of self.old) result (λ tables. user_named tables.users name.now) }
+        ensures asked { IfOk result (λ row. IfSome row (λ user. user.name ≡ name.now)) }
+        ensures sound { IfOk result (λ row. IfSome row IsSoundUser) }
+        ensures ordered { IfOk result (λ _. IsOrdered (kept_of self.old).report) }
+        ensures reads { OnlyReads (kept_of self.old) (kept_of self.new) result }
+        ensures call { HasCalled self.old self.new result }
+    {
+        self.calls.pass()?;
+        match &self.store {
+            Some(store) => Ok(store.tables.user_by_name(alloc, name)?),
+            None => unreachable!(),
+        }
+    }
+
+    fn users_by_email(
+        &mut self,
+        alloc: Global,
+        email: &str,
+    ) -> Result<RowList<UserRow>, KeeperFault>
+        requires { MayHold (kept_of self.old).report }
+        ensures value { Answers (kept_of self.old) result (λ tables. users_of_email tables.users email.now) }
+        ensures sound { IfOk result (λ rows. All IsSoundUser rows) }
+        ensures order { IfOk result (λ rows. IsStrictlyIncreasing (ids_of_users rows)) }
+        ensures reads { OnlyReads (kept_of self.old) (kept_of self.new) result }
+        ensures call { HasCalled self.old self.new result }
+    {
+        self.calls.pass()?;
+        match &self.store {
+            Some(store) => Ok(store.tables.users_by_email(alloc, email)?),
+            None => unreachable!(),
+        }
+    }
+
+    fn groups(&mut self, alloc: Global) -> Result<RowList<GroupRow>, KeeperFault>
+        requires { MayHold (kept_of self.old).report }
+        ensures value { Answers (kept_of self.old) result (λ tables. tables.groups) }
+        ensures sound { IfOk result (λ rows. All IsSoundGroup rows) }
+        ensures order { IfOk result (λ rows. IsStrictlyIncreasing (ids_of_groups rows)) }
+        ensures reads { OnlyReads (kept_of self.old) (kept_of self.new) result }
+        ensures call { HasCalled self.old self.new result }
+    {
+        self.calls.pass()?;
+        match &self.store {
+            Some(store) => Ok(store.tables.groups(alloc)?),
+            None => unreachable!(),
+        }
+    }
+
+    fn perms(&mut self, alloc: Global) -> Result<RowList<PermRow>, KeeperFault>
+        requires { MayHold (kept_of self.old).report }
+        ensures value { Answers (kept_of self.old) result (λ tables. tables.perms) }
+        ensures sound { IfOk result (λ rows. All IsSoundPerm rows) }
+        ensures order { IfOk result (λ rows. IsStrictlyIncreasing (ids_of_perms rows)) }
+        ensures reads { OnlyReads (kept_of self.old) (kept_of self.new) result }
+        ensures call { HasCalled self.old self.new result }
+    {
+        self.calls.pass()?;
+        match &self.store {
+            Some(store) => Ok(store.tables.perms(alloc)?),
             None => unreachable!(),
         }
     }
@@ -235,6 +304,34 @@ impl Keeper for MemKeeper {
         }
     }
 
+    fn oldest_mail(&mut self, alloc: Global) -> Result<Option<MailRow>, KeeperFault>
+        requires { MayHold (kept_of self.old).report }
+        ensures value { Answers (kept_of self.old) result (λ tables. first_mail tables.mails) }
+        ensures sound { IfOk result (λ row. IfSome row IsSoundMail) }
+        ensures reads { OnlyReads (kept_of self.old) (kept_of self.new) result }
+        ensures call { HasCalled self.old self.new result }
+    {
+        self.calls.pass()?;
+        match &self.store {
+            Some(store) => Ok(store.tables.oldest_mail(alloc)?),
+            None => unreachable!(),
+        }
+    }
+
+    fn next_ids(&mut self) -> Result<NextIds, KeeperFault>
+        requires { MayHold (kept_of self.old).report }
+        ensures value { Answers (kept_of self.old) result next_ids_of }
+        ensures ordered { IfOk result (λ _. IsOrdered (kept_of self.old).report) }
+        ensures reads { OnlyReads (kept_of self.old) (kept_of self.new) result }
+        ensures call { HasCalled self.old self.new result }
+    {
+        self.calls.pass()?;
+        match &self.store {
+            Some(store) => Ok(store.tables.next_ids()),
+            None => unreachable!(),
+        }
+    }
+
     fn entry_at(&mut self, alloc: Global, index: u64) -> Result<Option<Entry>, KeeperFault>
         requires { MayHold (kept_of self.old).report }
         ensures value { IfOk result (λ entry. OnHolding (kept_of self.old).report (λ contents. entry ≡ entry_at contents.entries index)) }
@@ -258,6 +355,7 @@ impl Keeper for MemKeeper {
         requires holds { MayHold (kept_of self.old).report }
         requires room { (kept_of self.old).entry_count < 2 ^ 62 }
         requires sound { All IsSoundChange changes.now }
+        requires names { KeepsNames changes.now (kept_of self.old).report }
         ensures commits { Commits entry.now changes.now (kept_of self.old) (kept_of self.new) result }
         ensures call { HasCalled self.old self.new result }
     {

@@ -1,44 +1,33 @@
 //! Tables in memory, each a vector in the order of its keys.
 
-ghost use Rattle.std.specs.Prelude.{◌≡◌, ◌≤◌, ◌<◌, ◌+◌, ℕ, suc, vec_len, vec_capacity, All, IfErr, IfOk, IfSome, OnErr, OnOk, insert, length, option_map, slice_set};
-ghost use Rattle.ledger_rows.specs.Opening.{IsOpening};
-ghost use Rattle.ledger_rows.specs.Rows.{IsNumber, IsSoundSession, IsSoundUser};
-ghost use Rattle.ledger_rows.specs.SessionSteps.{count_expired, without_expired};
-ghost use Rattle.ledger_rows.specs.Tables.{greatest_id, opening_tables, put_session, session_of, sorted_sessions, user_of, without_session};
-ghost use Rattle.keepers.specs.Keeper.{IsSoundChange, changed, changed_by};
-ghost use Rattle.keepers.specs.MemoryTables.{HasRoomFor, tables_of};
+ghost use Rattle.std.specs.Prelude.{◌≡◌, ◌+◌, All, IfOk, IfSome, OnErr, OnOk, option_map};
+ghost use Rattle.std.specs.List.Sorted.{IsStrictlyIncreasing};
+ghost use Rattle.ledger_rows.specs.Opening.{IsOpening, ids_of_groups, ids_of_perms, ids_of_users};
+ghost use Rattle.ledger_rows.specs.Rows.{AreInOrder, IsNumber, IsSoundGroup, IsSoundMail, IsSoundPerm, IsSoundSession, IsSoundUser};
+ghost use Rattle.ledger_rows.specs.SessionSteps.{count_expired};
+ghost use Rattle.ledger_rows.specs.Tables.{first_mail, greatest_id, has_email, opening_tables, session_of, sorted_sessions, user_named, user_of, users_of_email};
+ghost use Rattle.keepers.specs.Keeper.{IsSoundChange, KeepsNamesOf, changed_by, next_ids_of};
+ghost use Rattle.keepers.specs.MemoryTables.{tables_of};
 
 use crate::change::Change;
+use crate::keeper::NextIds;
+use crate::memory_rows::Rows;
+use crate::sorted_rows::put_row;
 use ledger_rows::{MailRow, Opening, RowList, SessionRow, UserRow};
 use permissions::{GroupRow, PermRow};
 use signing_core::Keys;
 use std::alloc::{AllocError, Global};
-use std::cmp::Ordering;
 use std::collections::VecDeque;
 use std::marker::Model;
 
-/// The rows are sound, and stay so.
+/// The rows are sound and in order, and stay so.
 #[derive(Drop)]
 pub struct MemTables {
     rows: Rows,
 }
 
-/// What the tables hold.
-#[derive(Drop)]
-struct Rows {
-    keys: Keys,
-    users: Vec<UserRow>,
-    groups: RowList<GroupRow>,
-    perms: RowList<PermRow>,
-    sessions: Vec<SessionRow>,
-    mails: Vec<MailRow>,
-    boot: u64,
-    next_user: u64,
-    next_mail: u64,
-}
-
 impl Model for MemTables {
-    ghost use Rattle.ledger_rows.specs.Rows.{AreSound};
+    ghost use Rattle.ledger_rows.specs.Rows.{AreInOrder, AreSound};
     ghost use Rattle.ledger_rows.specs.Tables.{Tables};
 
     ghost Value = { Tables };
@@ -47,7 +36,7 @@ impl Model for MemTables {
 
     ghost view = { λ t. tables_of t.rows };
 
-    ghost invariant = { λ t. AreSound (tables_of t.rows) };
+    ghost invariant = { λ t. AreSound (tables_of t.rows) × AreInOrder (tables_of t.rows) };
 }
 
 impl MemTables {
@@ -89,11 +78,49 @@ impl MemTables {
         ensures value { IfOk result (λ row. row ≡ user_of self.now.users id) }
         ensures asked { IfOk result (λ row. IfSome row (λ user. user.id ≡ id)) }
         ensures sound { IfOk result (λ row. IfSome row IsSoundUser) }
+        ensures ordered { AreInOrder self.now }
     {
         match found_user(self.rows.users.as_slice(), id) {
             Some(user) => Ok(Some(user.copy(alloc)?)),
             None => Ok(None),
         }
+    }
+
+    pub fn user_by_name(&self, alloc: Global, name: &str) -> Result<Option<UserRow>, AllocError>
+        ensures value { IfOk result (λ row. row ≡ user_named self.now.users name.now) }
+        ensures asked { IfOk result (λ row. IfSome row (λ user. user.name ≡ name.now)) }
+        ensures sound { IfOk result (λ row. IfSome row IsSoundUser) }
+        ensures ordered { AreInOrder self.now }
+    {
+        match named_user(self.rows.users.as_slice(), name) {
+            Some(user) => Ok(Some(user.copy(alloc)?)),
+            None => Ok(None),
+        }
+    }
+
+    pub fn users_by_email(&self, alloc: Global, email: &str) -> Result<RowList<UserRow>, AllocError>
+        ensures value { IfOk result (λ rows. rows ≡ users_of_email self.now.users email.now) }
+        ensures sound { IfOk result (λ rows. All IsSoundUser rows) }
+        ensures order { IfOk result (λ rows. IsStrictlyIncreasing (ids_of_users rows)) }
+    {
+        let users = copies_by_email(alloc, self.rows.users.as_slice(), email)?;
+        Ok(RowList::from_vec(users))
+    }
+
+    pub fn groups(&self, alloc: Global) -> Result<RowList<GroupRow>, AllocError>
+        ensures value { IfOk result (λ rows. rows ≡ self.now.groups) }
+        ensures sound { IfOk result (λ rows. All IsSoundGroup rows) }
+        ensures order { IfOk result (λ rows. IsStrictlyIncreasing (ids_of_groups rows)) }
+    {
+        self.rows.groups.copy(alloc)
+    }
+
+    pub fn perms(&self, alloc: Global) -> Result<RowList<PermRow>, AllocError>
+        ensures value { IfOk result (λ rows. rows ≡ self.now.perms) }
+        ensures sound { IfOk result (λ rows. All IsSoundPerm rows) }
+        ensures order { IfOk result (λ rows. IsStrictlyIncreasing (ids_of_perms rows)) }
+    {
+        self.rows.perms.copy(alloc)
     }
 
     pub fn session(&self, alloc: Global, key: &str) -> Result<Option<SessionRow>, AllocError>
@@ -115,42 +142,36 @@ impl MemTables {
         over.count() as u64
     }
 
+    pub fn oldest_mail(&self, alloc: Global) -> Result<Option<MailRow>, AllocError>
+        ensures value { IfOk result (λ row. row ≡ first_mail self.now.mails) }
+        ensures sound { IfOk result (λ row. IfSome row IsSoundMail) }
+    {
+        match self.rows.mails.as_slice() {
+            [mail, ..] => Ok(Some(mail.copy(alloc)?)),
+            [] => Ok(None),
+        }
+    }
+
+    pub fn next_ids(&self) -> NextIds
+        ensures value { result ≡ next_ids_of self.now }
+        ensures ordered { AreInOrder self.now }
+    {
+        NextIds {
+            user: self.rows.next_user,
+            mail: self.rows.next_mail,
+        }
+    }
+
     /// Makes the changes in order, or none.
     pub fn change(&mut self, changes: VecDeque<Change>) -> Result<(), AllocError>
-        requires { All IsSoundChange changes.items }
+        requires sound { All IsSoundChange changes.items }
+        requires names { KeepsNamesOf changes.items self.old }
         ensures ok { OnOk result (self.new ≡ changed_by changes.items self.old) }
         ensures err { OnErr result (self.new ≡ self.old) }
     {
-        self.rows.sessions.reserve(changes.len())?;
+        self.rows.reserve(changes.len())?;
         self.rows.change_all(changes);
         Ok(())
-    }
-}
-
-impl Rows {
-    // There is room for the rows that are put in.
-    fn change_all(&mut self, changes: VecDeque<Change>)
-        requires { HasRoomFor self.old (length changes.items) }
-        ensures { tables_of self.new ≡ changed_by changes.items (tables_of self.old) }
-    {
-        let mut changes = changes;
-        while let Some(change) = changes.pop_front() {
-            self.change_one(change);
-        }
-    }
-
-    fn change_one(&mut self, change: Change)
-        requires { HasRoomFor self.old 1 }
-        ensures tables { tables_of self.new ≡ changed (tables_of self.old) change }
-        ensures room { (more : ℕ) → HasRoomFor self.old (suc more) → HasRoomFor self.new more }
-    {
-        match change {
-            Change::PutSession(row) => put_session(&mut self.sessions, row),
-            Change::DropSession(key) => drop_session(&mut self.sessions, key.as_str()),
-            Change::DropExpired(now) => drop_expired(&mut self.sessions, now),
-            Change::PutKeys(keys) => self.keys = keys,
-            Change::PutBoot(boot) => self.boot = boot,
-        }
     }
 }
 
@@ -180,6 +201,42 @@ fn found_user(users: &[UserRow], id: u64) -> Option<&UserRow>
     None
 }
 
+fn named_user<'a>(users: &'a [UserRow], name: &str) -> Option<&'a UserRow>
+    requires { All IsSoundUser users.now }
+    ensures value { option_map (λ user. user.now) result ≡ user_named users.now name.now }
+    ensures asked { IfSome result (λ user. user.now.name ≡ name.now) }
+    ensures sound { IfSome result (λ user. IsSoundUser user.now) }
+{
+    for user in users {
+        if user.name.as_str() == name {
+            return Some(user);
+        }
+    }
+    None
+}
+
+fn copies_by_email(
+    alloc: Global,
+    users: &[UserRow],
+    email: &str,
+) -> Result<Vec<UserRow>, AllocError>
+    ensures { IfOk result (λ copies. copies.items ≡ users_of_email users.now email.now) }
+{
+    let mut copies = Vec::new(alloc);
+    for user in users {
+        if has_email(user, email) {
+            copies.push(user.copy(alloc)?)?;
+        }
+    }
+    Ok(copies)
+}
+
+fn has_email(user: &UserRow, email: &str) -> bool
+    ensures { result ≡ has_email email.now user.now }
+{
+    user.email.as_str().eq_ignore_ascii_case(email)
+}
+
 fn found_session<'a>(sessions: &'a [SessionRow], key: &str) -> Option<&'a SessionRow>
     requires { All IsSoundSession sessions.now }
     ensures value { option_map (λ session. session.now) result ≡ session_of sessions.now key.now }
@@ -201,56 +258,7 @@ fn sorted_sessions(alloc: Global, rows: &[SessionRow]) -> Result<Vec<SessionRow>
     for row in rows {
         let row = row.copy(alloc)?;
         sessions.reserve(1)?;
-        put_session(&mut sessions, row);
+        put_row(&mut sessions, row);
     }
     Ok(sessions)
-}
-
-fn put_session(sessions: &mut Vec<SessionRow>, row: SessionRow)
-    requires { vec_len sessions.old < vec_capacity sessions.old }
-    ensures value { sessions.new.items ≡ put_session sessions.old.items row }
-    ensures len { vec_len sessions.new ≤ vec_len sessions.old + 1 }
-    ensures capacity { vec_capacity sessions.new ≡ vec_capacity sessions.old }
-{
-    match place_of_session(sessions.as_slice(), &row) {
-        Ok(index) => sessions[index] = row,
-        Err(index) => {
-            if sessions.insert(index, row).is_err() {
-                unreachable!()
-            }
-        }
-    }
-}
-
-fn drop_session(sessions: &mut Vec<SessionRow>, key: &str)
-    ensures value { sessions.new.items ≡ without_session sessions.old.items key.now }
-    ensures len { vec_len sessions.new ≤ vec_len sessions.old }
-    ensures capacity { vec_capacity sessions.new ≡ vec_capacity sessions.old }
-{
-    sessions.retain(|row| row.key.as_str() != key);
-}
-
-fn drop_expired(sessions: &mut Vec<SessionRow>, now: u64)
-    ensures value { sessions.new.items ≡ without_expired sessions.old.items now }
-    ensures len { vec_len sessions.new ≤ vec_len sessions.old }
-    ensures capacity { vec_capacity sessions.new ≡ vec_capacity sessions.old }
-{
-    sessions.retain(|row| row.expire >= now);
-}
-
-// The index of the session of this row's key, or the one at which it is to be put in.
-fn place_of_session(sessions: &[SessionRow], row: &SessionRow) -> Result<usize, usize>
-    ensures found { IfOk result (λ index. index < length sessions.now) }
-    ensures none { IfErr result (λ index. index ≤ length sessions.now) }
-    ensures replaced { IfOk result (λ index. put_session sessions.now row.now ≡ slice_set sessions.now index row.now) }
-    ensures inserted { IfErr result (λ index. put_session sessions.now row.now ≡ insert sessions.now index row.now) }
-{
-    for (index, session) in sessions.iter().enumerate() {
-        match session.key.as_str().cmp(row.key.as_str()) {
-            Ordering::Less => {}
-            Ordering::Equal => return Ok(index),
-            Ordering::Greater => return Err(index),
-        }
-    }
-    Err(sessions.len())
 }

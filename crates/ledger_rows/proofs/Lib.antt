@@ -4,3 +4,4 @@ pub mod PayloadLemmas
 pub mod TableLemmas
 pub mod OpeningLemmas
 pub mod AdmissionLemmas
+pub mod UserLemmas

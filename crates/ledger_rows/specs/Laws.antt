@@ -1,17 +1,19 @@
 -- What follows from the definitions.
 use Rattle.std.specs.Prelude.{◌≡◌, ◌↔◌, ◌++◌, ◌<◌, ◌≤◌, ℕ, suc, [], ◌∷◌, List, Option, Some, length, if◌then◌else◌}
+use Rattle.crypto_text.specs.TextList.{AreDifferent}
 use Rattle.ledger_rows.specs.State.{State, opening_state}
-use Rattle.ledger_rows.specs.Tables.{opening_tables}
+use Rattle.ledger_rows.specs.Tables.{Tables, opening_tables}
 use Rattle.ledger_rows.specs.Admission.{IsAdmitted, found_user, verdict_of}
-use Rattle.ledger_rows.specs.Step.{IsOperation, state_after}
-use Rattle.ledger_rows.specs.Rows.{AreSound}
-use Rattle.ledger_rows.specs.Opening.{IsOpening}
+use Rattle.ledger_rows.specs.Step.{IsOperation, state_after, users_after}
+use Rattle.ledger_rows.specs.Rows.{AreInOrder, AreSound}
+use Rattle.ledger_rows.specs.Opening.{IsOpening, names_of_users}
 use Rattle.ledger_rows.specs.History.{IsLegal, entry_at, is_of_worker, is_own, own_entries, reply_at, state_at, worker_entries}
 use Rattle.ledger_rows.specs.declared.rows.Cfg.{Cfg}
 use Rattle.ledger_rows.specs.declared.rows.Engine.{Engine}
 use Rattle.ledger_rows.specs.declared.rows.Opening.{Opening}
 use Rattle.ledger_rows.specs.declared.rows.UserRow.{UserRow}
 use Rattle.ledger_rows.specs.declared.verdict.Verdict.TheVariants.{Admitted}
+use Rattle.ledger_rows.specs.declared.operation.Op.{Op}
 use Rattle.ledger_rows.specs.declared.entry.Entry.{Entry}
 
 -- the opening state is legal, with no entry
@@ -58,3 +60,7 @@ LoadAdmitsExactly = (cfg : Cfg) (state : State) (cookie : Option (List ℕ)) (no
 -- the rows that a new store begins with are sound
 abbrev pub OpeningRowsAreSound : Type 0
 OpeningRowsAreSound = (opening : Opening) → IsOpening opening → AreSound (opening_tables opening)
+
+-- no operation gives two users one name
+abbrev pub NamesStayDifferent : Type 0
+NamesStayDifferent = (op : Op) (tables : Tables) → AreInOrder tables → AreDifferent (names_of_users (users_after op tables))

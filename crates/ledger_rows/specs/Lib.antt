@@ -8,6 +8,8 @@ pub mod Rows
 pub mod Replies
 pub mod SessionSteps
 pub mod KeySteps
+pub mod UserSteps
+pub mod MailSteps
 pub mod Step
 pub mod Opening
 pub mod History

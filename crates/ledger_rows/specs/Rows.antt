@@ -1,11 +1,14 @@
 -- Which rows a store may hold. This project's own.
 use Rattle.std.specs.Prelude.{◌<◌, ◌^◌, ⊤, ℕ, Option, None, Some}
 use Rattle.std.specs.List.{All}
+use Rattle.std.specs.List.Sorted.{IsStrictlyIncreasing}
 use Rattle.crypto_text.specs.Moment.{IsMoment}
+use Rattle.crypto_text.specs.TextList.{AreDifferent}
 use Rattle.pass_hashers.specs.PasswordText.{IsPasswordText}
 use Rattle.permissions.specs.declared.rows.GroupRow.{GroupRow}
 use Rattle.permissions.specs.declared.rows.PermRow.{PermRow}
 use Rattle.ledger_rows.specs.Form.{IsEmail, IsPermissionWord, IsSessionKey, IsUserName}
+use Rattle.ledger_rows.specs.Opening.{ids_of_groups, ids_of_perms, ids_of_users, names_of_users}
 use Rattle.ledger_rows.specs.Tables.{Tables}
 use Rattle.ledger_rows.specs.declared.rows.MailRow.{MailRow}
 use Rattle.ledger_rows.specs.declared.rows.SessionRow.{SessionRow}
@@ -56,3 +59,19 @@ pub record AreSound (tables : Tables) : Type 0 where
   pub sessions : All IsSoundSession tables.sessions
   pub mails : All IsSoundMail tables.mails
   pub boot : IsNumber tables.boot
+
+-- the id was given before the next one
+abbrev pub IsUserBefore : ℕ → UserRow → Type 0
+IsUserBefore next user = user.id < next
+
+abbrev pub IsMailBefore : ℕ → MailRow → Type 0
+IsMailBefore next mail = mail.id < next
+
+-- rows stand in the order of their ids, no two users have one name, and the next ids are above those that were given
+pub record AreInOrder (tables : Tables) : Type 0 where
+  pub users : IsStrictlyIncreasing (ids_of_users tables.users)
+  pub names : AreDifferent (names_of_users tables.users)
+  pub groups : IsStrictlyIncreasing (ids_of_groups tables.groups)
+  pub perms : IsStrictlyIncreasing (ids_of_perms tables.perms)
+  pub next_user : All (IsUserBefore tables.next_user) tables.users
+  pub next_mail : All (IsMailBefore tables.next_mail) tables.mails

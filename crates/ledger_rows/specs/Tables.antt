@@ -1,7 +1,8 @@
 -- The tables of a store, each in one order. The tables are those of Django's auth and sessions applications; the order,
 -- the mails and the numbers are this project's own.
-use Rattle.std.specs.Prelude.{◌==◌, ◌+◌, ℕ, max, not, List, [], ◌∷◌, Option, None, Some, bytes_eq, filter, fold, if◌then◌else◌}
+use Rattle.std.specs.Prelude.{◌==◌, ◌+◌, ℕ, Bool, max, not, List, [], ◌∷◌, Option, None, Some, bytes_eq, filter, fold, if◌then◌else◌}
 use Rattle.std.specs.Cmp.Lexicographic.{slice_cmp}
+use Rattle.std.specs.Str.{str_eq_ignore_ascii_case}
 use Rattle.std.specs.Ordering.{match_ordering, nat_cmp}
 use Rattle.permissions.specs.declared.rows.GroupRow.{GroupRow}
 use Rattle.permissions.specs.declared.rows.PermRow.{PermRow}
@@ -29,6 +30,29 @@ pub record Tables : Type 0 where
 abbrev pub user_of : List UserRow → ℕ → Option UserRow
 user_of [] id = None
 user_of (user ∷ users) id = if user.id == id then Some user else user_of users id
+
+-- the user of a name
+abbrev pub user_named : List UserRow → List ℕ → Option UserRow
+user_named [] name = None
+user_named (user ∷ users) name = if bytes_eq user.name name then Some user else user_named users name
+
+-- whether an address is the user's, in whatever case
+abbrev pub has_email : List ℕ → UserRow → Bool
+has_email email user = str_eq_ignore_ascii_case user.email email
+
+-- the users of an address
+abbrev pub users_of_email : List UserRow → List ℕ → List UserRow
+users_of_email users email = filter (has_email email) users
+
+-- the group of a name
+abbrev pub group_named : List GroupRow → List ℕ → Option GroupRow
+group_named [] name = None
+group_named (group ∷ groups) name = if bytes_eq group.name name then Some group else group_named groups name
+
+-- the first of the mails
+abbrev pub first_mail : List MailRow → Option MailRow
+first_mail [] = None
+first_mail (mail ∷ mails) = Some mail
 
 -- the session of a key
 abbrev pub session_of : List SessionRow → List ℕ → Option SessionRow

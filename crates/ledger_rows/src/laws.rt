@@ -5,7 +5,7 @@
 //! (what each entry keeps holds at each later index) in `proofs/HistoryLemmas.antt`, and in
 //! `proofs/TableLemmas.antt` what holds of all rows of a table after a step, one lemma a table.
 
-ghost use Rattle.ledger_rows.specs.Laws.{LegalHistoryGrows, LoadAdmitsExactly, OpeningIsLegal, OpeningRowsAreSound, OwnEntriesGrow, PrefixStays, StateAtNext, WorkerEntriesGrow};
+ghost use Rattle.ledger_rows.specs.Laws.{LegalHistoryGrows, LoadAdmitsExactly, NamesStayDifferent, OpeningIsLegal, OpeningRowsAreSound, OwnEntriesGrow, PrefixStays, StateAtNext, WorkerEntriesGrow};
 
 /// A history begins as a legal one.
 pub fn opening_is_legal()
@@ -45,4 +45,9 @@ pub fn load_admits_exactly()
 /// A new store holds sound rows alone.
 pub fn opening_rows_are_sound()
     ensures { OpeningRowsAreSound }
+{}
+
+/// Two users have never one name.
+pub fn names_stay_different()
+    ensures { NamesStayDifferent }
 {}

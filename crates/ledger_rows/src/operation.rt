@@ -46,12 +46,62 @@ pub enum Op {
     ClearExpired {
         now: u64,
     },
+    /// Finds the user of a name.
+    FindUser {
+        name: Text,
+    },
+    /// Puts another password text in place of the one that was expected.
+    SetPassword {
+        user: u64,
+        expected: Text,
+        fresh: Text,
+    },
+    /// Keeps the moment of a login: Django's `update_last_login`.
+    SetLastLogin {
+        user: u64,
+        now: u64,
+    },
+    /// Makes an active user without groups and permissions.
+    AddUser {
+        name: Text,
+        email: Text,
+        password: Text,
+        superuser: bool,
+    },
+    /// Says of a user whether he is active.
+    SetActive {
+        name: Text,
+        active: bool,
+    },
+    /// Puts a user into the group of a name, or takes him out of it.
+    SetMembership {
+        name: Text,
+        group: Text,
+        member: bool,
+    },
+    /// Finds what a user may do: Django's `get_all_permissions`.
+    Perms {
+        user: u64,
+    },
     /// Makes a key the first; the keys so far are its fallbacks.
     RotateKey {
         key: Bytes,
     },
     /// Gives up all keys but the first.
     RetireKeys,
+    /// Writes mails with links that reset the passwords of an address: Django's `PasswordResetForm`.
+    MakeReset {
+        email: Text,
+        now: u64,
+    },
+    /// Finds out whether a reset token is valid for a user: Django's `check_token`.
+    CheckReset {
+        user: u64,
+        token: Text,
+        now: u64,
+    },
+    /// Takes the oldest mail.
+    TakeMail,
 }
 
 impl Op {
@@ -104,10 +154,61 @@ impl Op {
                 key: key.copy(alloc)?,
             }),
             Op::ClearExpired { now } => Ok(Op::ClearExpired { now: *now }),
+            Op::FindUser { name } => Ok(Op::FindUser {
+                name: name.copy(alloc)?,
+            }),
+            Op::SetPassword {
+                user,
+                expected,
+                fresh,
+            } => Ok(Op::SetPassword {
+                user: *user,
+                expected: expected.copy(alloc)?,
+                fresh: fresh.copy(alloc)?,
+            }),
+            Op::SetLastLogin { user, now } => Ok(Op::SetLastLogin {
+                user: *user,
+                now: *now,
+            }),
+            Op::AddUser {
+                name,
+                email,
+                password,
+                superuser,
+            } => Ok(Op::AddUser {
+                name: name.copy(alloc)?,
+                email: email.copy(alloc)?,
+                password: password.copy(alloc)?,
+                superuser: *superuser,
+            }),
+            Op::SetActive { name, active } => Ok(Op::SetActive {
+                name: name.copy(alloc)?,
+                active: *active,
+            }),
+            Op::SetMembership {
+                name,
+                group,
+                member,
+            } => Ok(Op::SetMembership {
+                name: name.copy(alloc)?,
+                group: group.copy(alloc)?,
+                member: *member,
+            }),
+            Op::Perms { user } => Ok(Op::Perms { user: *user }),
             Op::RotateKey { key } => Ok(Op::RotateKey {
                 key: key.copy(alloc)?,
             }),
             Op::RetireKeys => Ok(Op::RetireKeys),
+            Op::MakeReset { email, now } => Ok(Op::MakeReset {
+                email: email.copy(alloc)?,
+                now: *now,
+            }),
+            Op::CheckReset { user, token, now } => Ok(Op::CheckReset {
+                user: *user,
+                token: token.copy(alloc)?,
+                now: *now,
+            }),
+            Op::TakeMail => Ok(Op::TakeMail),
         }
     }
 }

@@ -4,11 +4,12 @@ ghost use Rattle.std.specs.Prelude.{◌≡◌, ◌↔◌, IfOk, IsTrue};
 ghost use Rattle.signing_core.specs.Keys.{HasKeyLength};
 ghost use Rattle.session_codec.specs.SessionText.{payload_of};
 ghost use Rattle.ledger_rows.specs.Replies.{IsPayload};
-ghost use Rattle.ledger_rows.specs.Step.{IsBeginning, IsLifetime, IsOperation, IsWriting};
+ghost use Rattle.ledger_rows.specs.Step.{IsAsking, IsBeginning, IsLifetime, IsNewUser, IsOperation, IsWriting};
 
-use crate::form::is_session_key;
+use crate::form::{is_email, is_session_key, is_user_name};
 use crate::operation::Op;
 use crypto_text::{Text, is_moment};
+use pass_hashers::is_password_text;
 use session_codec::{DecodeFault, SessionMap, from_payload, payload};
 use std::alloc::{AllocError, Global};
 
@@ -45,9 +46,37 @@ pub fn op_ok(alloc: Global, op: &Op) -> Result<bool, AllocError>
         } => is_beginning(alloc, key, payload, *seconds, *now),
         Op::Delete { .. } => Ok(true),
         Op::ClearExpired { now } => Ok(is_moment(*now)),
+        Op::FindUser { name } => Ok(is_user_name(name.as_str())),
+        Op::SetPassword { fresh, .. } => Ok(is_password_text(fresh.as_str())),
+        Op::SetLastLogin { now, .. } => Ok(is_moment(*now)),
+        Op::AddUser {
+            name,
+            email,
+            password,
+            ..
+        } => Ok(is_new_user(name, email, password)),
+        Op::SetActive { name, .. } => Ok(is_user_name(name.as_str())),
+        Op::SetMembership { name, .. } => Ok(is_user_name(name.as_str())),
+        Op::Perms { .. } => Ok(true),
         Op::RotateKey { key } => Ok(has_key_length(key.items())),
         Op::RetireKeys => Ok(true),
+        Op::MakeReset { email, now } => Ok(is_asking(email, *now)),
+        Op::CheckReset { now, .. } => Ok(is_moment(*now)),
+        Op::TakeMail => Ok(true),
     }
+}
+
+fn is_new_user(name: &Text, email: &Text, password: &Text) -> bool
+    ensures { IsTrue result ↔ IsNewUser name.now email.now password.now }
+{
+    is_user_name(name.as_str()) && is_email(email.as_str()) && is_password_text(password.as_str())
+}
+
+// Whether a reset may be asked for.
+fn is_asking(email: &Text, now: u64) -> bool
+    ensures { IsTrue result ↔ IsAsking email.now now }
+{
+    is_email(email.as_str()) && is_moment(now)
 }
 
 fn is_lifetime(seconds: u64) -> bool

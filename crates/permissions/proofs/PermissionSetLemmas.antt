@@ -15,9 +15,8 @@ use Rattle.std.proofs.lemmas.Cmp.{nat_list_cmp_total}
 use Rattle.std.proofs.lemmas.Grind.{flat_map-append}
 use Rattle.std.proofs.lemmas.List.Sorted.{list_any-IsPermutation}
 use Rattle.permissions.specs.declared.rows.GroupRow.{GroupRow}
-use Rattle.permissions.specs.declared.rows.Holder.{Holder}
 use Rattle.permissions.specs.declared.rows.PermRow.{PermRow}
-use Rattle.permissions.specs.PermissionSet.{IsOfApp, ids_of_groups, in_order, is_held, is_listed, name_of, names_of}
+use Rattle.permissions.specs.PermissionSet.{HolderRow, IsOfApp, ids_of_groups, in_order, is_held, is_listed, name_of, names_of}
 use Rattle.permissions.proofs.OrderLemmas.{sorted-fold}
 
 -- no rows have no names
@@ -66,7 +65,7 @@ unfolding in_order IsStrictlySortedBy
 ascending-names_of test rows = sorted-fold (slice_cmp nat_cmp) nat_list_cmp_total [] (map name_of (filter test rows)) tt
 
 -- the order of the ids is of no account
-pub is_held-permutation : (user : Holder) (ids sorted : List ℕ) → IsPermutation ids sorted → (row : PermRow) → is_held user sorted row ≡ is_held user ids row
+pub is_held-permutation : (user : HolderRow) (ids sorted : List ℕ) → IsPermutation ids sorted → (row : PermRow) → is_held user sorted row ≡ is_held user ids row
 is_held-permutation user ids sorted moved row = ap (λ (listed : Bool). user.active && (user.superuser || listed)) (sym (list_any-IsPermutation (λ id. nat_eq id row.id) ids sorted moved))
 
 -- ---- the ids of groups
@@ -76,10 +75,10 @@ flat_map-cond group true = append-nil group.perms
 flat_map-cond group false = refl
 
 -- one group more adds its ids where the user is in it
-pub ids_of_groups-more : (user : Holder) (groups : List GroupRow) (i : ℕ) (group : GroupRow) (joined : Bool) → i < length groups → group ≡ get_or groups i group
-    → is_listed user.groups.now group.id ≡ joined → ids_of_groups user (take (i + 1) groups) ≡ ids_of_groups user (take i groups) ++ cond joined group.perms []
+pub ids_of_groups-more : (user : HolderRow) (groups : List GroupRow) (i : ℕ) (group : GroupRow) (joined : Bool) → i < length groups → group ≡ get_or groups i group
+    → is_listed user.groups group.id ≡ joined → ids_of_groups user (take (i + 1) groups) ≡ ids_of_groups user (take i groups) ++ cond joined group.perms []
 ids_of_groups-more user groups i group joined lt here is =
-    let test = λ (g : GroupRow). is_listed user.groups.now g.id in
+    let test = λ (g : GroupRow). is_listed user.groups g.id in
     let more = filter_more test groups i group lt in
     let last : cond (test (get_or groups i group)) (get_or groups i group ∷ []) [] ≡ cond joined (group ∷ []) [] = rw (sym here, is) refl in
     ap (flat_map (λ (g : GroupRow). g.perms)) (more ∙ ap (λ (gs : List GroupRow). filter test (take i groups) ++ gs) last)

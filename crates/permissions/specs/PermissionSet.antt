@@ -8,6 +8,17 @@ use Rattle.permissions.specs.declared.rows.GroupRow.{GroupRow}
 use Rattle.permissions.specs.declared.rows.Holder.{Holder}
 use Rattle.permissions.specs.declared.rows.PermRow.{PermRow}
 
+-- what of a user counts for permissions: the ids of his groups and of his own permissions
+pub record HolderRow : Type 0 where
+  pub active : Bool
+  pub superuser : Bool
+  pub groups : List ℕ
+  pub perms : List ℕ
+
+-- the row of what a caller gives
+abbrev pub holder_row : Holder → HolderRow
+holder_row user = record { active = user.active; superuser = user.superuser; groups = user.groups.now; perms = user.perms.now }
+
 -- the name of a permission: `app.codename`
 abbrev pub name_of : PermRow → List ℕ
 name_of row = row.app ++ (46 ∷ row.codename)
@@ -17,11 +28,11 @@ abbrev pub is_listed : List ℕ → ℕ → Bool
 is_listed ids id = list_any (λ listed. listed == id) ids
 
 -- the ids of the permissions that the user's groups have
-abbrev pub ids_of_groups : Holder → List GroupRow → List ℕ
-ids_of_groups user groups = flat_map (λ (group : GroupRow). group.perms) (filter (λ (group : GroupRow). is_listed user.groups.now group.id) groups)
+abbrev pub ids_of_groups : HolderRow → List GroupRow → List ℕ
+ids_of_groups user groups = flat_map (λ (group : GroupRow). group.perms) (filter (λ (group : GroupRow). is_listed user.groups group.id) groups)
 
 -- an active user has a permission that is listed, and an active superuser each
-abbrev pub is_held : Holder → List ℕ → PermRow → Bool
+abbrev pub is_held : HolderRow → List ℕ → PermRow → Bool
 is_held user ids row = user.active && (user.superuser || is_listed ids row.id)
 
 -- the names in byte order, each once
@@ -33,7 +44,7 @@ abbrev pub names_of : (PermRow → Bool) → List PermRow → List (List ℕ)
 names_of test perms = in_order (map name_of (filter test perms))
 
 -- an active superuser has all permissions, also those of no row
-abbrev pub has_all : Holder → Bool
+abbrev pub has_all : HolderRow → Bool
 has_all user = user.active && user.superuser
 
 -- a set of permissions: whether every question is answered yes, and the names
@@ -42,11 +53,11 @@ pub record Permissions : Type 0 where
   pub names : List (List ℕ)
 
 -- all permissions of a user: those of his groups and his own
-abbrev pub permissions_of : Holder → List GroupRow → List PermRow → Permissions
-permissions_of user groups perms = record { all = has_all user; names = names_of (is_held user (ids_of_groups user groups ++ user.perms.now)) perms }
+abbrev pub permissions_of : HolderRow → List GroupRow → List PermRow → Permissions
+permissions_of user groups perms = record { all = has_all user; names = names_of (is_held user (ids_of_groups user groups ++ user.perms)) perms }
 
 -- those that he has through his groups
-abbrev pub group_permissions_of : Holder → List GroupRow → List PermRow → Permissions
+abbrev pub group_permissions_of : HolderRow → List GroupRow → List PermRow → Permissions
 group_permissions_of user groups perms = record { all = has_all user; names = names_of (is_held user (ids_of_groups user groups)) perms }
 
 -- the set answers yes to a name

@@ -12,6 +12,7 @@ ghost use Rattle.permissions.specs.PermissionSet.{
   IsOfApp,
   group_permissions_of,
   has_all,
+  holder_row,
   ids_of_groups,
   is_held,
   is_listed,
@@ -86,7 +87,7 @@ pub fn all_permissions(
     groups: &[GroupRow],
     perms: &[PermRow],
 ) -> Result<PermSet, AllocError>
-    ensures { IfOk result (λ set. set ≡ permissions_of user.now groups.now perms.now) }
+    ensures { IfOk result (λ set. set ≡ permissions_of (holder_row user.now) groups.now perms.now) }
 {
     let mut ids = ids_of_groups(alloc, user, groups)?;
     ids.extend_from_slice(user.perms.items())?;
@@ -104,7 +105,7 @@ pub fn group_permissions(
     groups: &[GroupRow],
     perms: &[PermRow],
 ) -> Result<PermSet, AllocError>
-    ensures { IfOk result (λ set. set ≡ group_permissions_of user.now groups.now perms.now) }
+    ensures { IfOk result (λ set. set ≡ group_permissions_of (holder_row user.now) groups.now perms.now) }
 {
     let ids = ids_of_groups(alloc, user, groups)?;
     Ok(PermSet {
@@ -135,7 +136,7 @@ pub fn has_module_perms(set: &PermSet, app: &str) -> bool
 }
 
 fn has_all(user: &Holder<'_>) -> bool
-    ensures { result ≡ has_all user.now }
+    ensures { result ≡ has_all (holder_row user.now) }
 {
     user.active && user.superuser
 }
@@ -145,7 +146,7 @@ fn ids_of_groups(
     user: &Holder<'_>,
     groups: &[GroupRow],
 ) -> Result<Vec<u64>, AllocError>
-    ensures { IfOk result (λ ids. ids.items ≡ ids_of_groups user.now groups.now) }
+    ensures { IfOk result (λ ids. ids.items ≡ ids_of_groups (holder_row user.now) groups.now) }
 {
     let mut ids = Vec::new(alloc);
     for group in groups {
@@ -163,7 +164,7 @@ fn held_names(
     mut ids: Vec<u64>,
     perms: &[PermRow],
 ) -> Result<TextList, AllocError>
-    ensures names { IfOk result (λ names. names ≡ names_of (is_held user.now ids.items) perms.now) }
+    ensures names { IfOk result (λ names. names ≡ names_of (is_held (holder_row user.now) ids.items) perms.now) }
     ensures ascending { IfOk result (IsStrictlySortedBy (slice_cmp nat_cmp)) }
 {
     ids.sort_unstable();
@@ -178,7 +179,7 @@ fn names_among(
     perms: &[PermRow],
 ) -> Result<TextList, AllocError>
     requires { IsNonDecreasing ids.now }
-    ensures { IfOk result (λ names. names ≡ names_of (is_held user.now ids.now) perms.now) }
+    ensures { IfOk result (λ names. names ≡ names_of (is_held (holder_row user.now) ids.now) perms.now) }
 {
     let mut names = BTreeSet::new(alloc);
     for row in perms {
@@ -201,7 +202,7 @@ fn list_of(alloc: Global, names: BTreeSet<Text>) -> Result<TextList, AllocError>
 
 fn is_held(user: &Holder<'_>, ids: &[u64], row: &PermRow) -> bool
     requires { IsNonDecreasing ids.now }
-    ensures { result ≡ is_held user.now ids.now row.now }
+    ensures { result ≡ is_held (holder_row user.now) ids.now row.now }
 {
     user.active && (user.superuser || is_listed(ids, row.id))
 }

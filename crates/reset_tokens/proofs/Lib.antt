@@ -1,4 +1,5 @@
 pub mod MomentLemmas
 pub mod ResetTextLemmas
 pub mod ResetTokenLemmas
+pub mod TokenVerdictLemmas
 pub mod UserIdTextLemmas

@@ -1,4 +1,5 @@
 pub mod Laws
 pub mod Moment
 pub mod ResetToken
+pub mod TokenVerdict
 pub mod UserIdText

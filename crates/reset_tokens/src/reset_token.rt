@@ -1,10 +1,11 @@
-//! Making and checking reset tokens.
+//! Making, judging and checking reset tokens.
 
-ghost use Rattle.std.specs.Prelude.{◌≡◌, ◌↔◌, ℕ, ◌∷◌, ◌++◌, Any, IfOk, IfSome, IsAscii, IsErrOf, IsOk, IsTrue, MatchOption, OnOk, string_bytes};
+ghost use Rattle.std.specs.Prelude.{◌≡◌, ◌↔◌, ℕ, ◌∷◌, ◌++◌, Any, IfOk, IfSome, IsAscii, IsErr, IsErrOf, IsOk, IsTrue, MatchOption, OnOk, string_bytes};
 ghost use Rattle.crypto_text.specs.Moment.{IsMoment};
 ghost use Rattle.crypto_text.specs.Numeral.{base36_digits, numeral_of};
 ghost use Rattle.signing_core.specs.Keys.{key_at};
 ghost use Rattle.reset_tokens.specs.ResetToken.{HasNumber, HasShape, IsExpired, IsMade, IsMismatch, IsValid, dash, every_second, mac_of_text, number_at, row_of, token_text};
+ghost use Rattle.reset_tokens.specs.TokenVerdict.{token_verdict, verdict_by_age};
 
 use crate::reset_text::{ResetUser, reset_text};
 use crypto_text::{Text, b36_decode, b36_encode, cut_at_first, hex_of, salted_hmac, same};
@@ -17,16 +18,27 @@ const SECONDS_TO_2001: u64 = 978_307_200;
 
 const MOST_AGE: u64 = 259_200;
 
-/// Why a token is not taken.
-#[derive(Clone, Copy, Debug, Drop, PartialEq, Eq, Error)]
-pub enum ResetFault {
+/// What a token is at a moment: the first that holds of `Shape`, `Mismatch`, `Expired` and `Valid`.
+#[derive(Clone, Copy, Debug, Drop, PartialEq, Eq)]
+pub enum ResetVerdict {
+    /// It was made for the user at most 259,200 seconds ago, or its moment is still to come.
+    Valid,
     /// It isn't a base 36 number of at most 13 digits, below 2^64, and one other part, with a `-`
     /// between and no other one.
+    Shape,
+    /// No listed key makes it for the user.
+    Mismatch,
+    /// It was made for the user more than 259,200 seconds ago.
+    Expired { age: u64 },
+}
+
+/// Why a token is not taken: the verdict of the same name, or out of memory.
+#[derive(Clone, Copy, Debug, Drop, PartialEq, Eq, Error)]
+pub enum ResetFault {
     #[error("not in the form of a token")]
     Shape,
     #[error("no listed key makes this token for the user")]
     Mismatch,
-    /// It was made for the user more than 259,200 seconds ago.
     #[error("too old: {age} seconds")]
     Expired { age: u64 },
     #[error("out of memory")]
@@ -59,6 +71,30 @@ pub fn make_token(
     token_of(alloc, number, text.as_str(), keys.first())
 }
 
+/// What a token is for a user at a moment. Memory is asked for after `Shape`. A number whose moment
+/// is still to come has the age 0.
+pub fn judge_token(
+    alloc: Global,
+    user: &ResetUser<'_>,
+    keys: &Keys,
+    token: &str,
+    now: u64,
+) -> Result<ResetVerdict, AllocError>
+    requires now { IsMoment now }
+    requires last_login { IfSome user.now.last_login IsMoment }
+    ensures value { IfOk result (λ verdict. verdict ≡ token_verdict (row_of user.now) keys.now token.now now) }
+    ensures err { IsErr result → HasShape token.now }
+{
+    let Some(number) = number_of(token) else {
+        return Ok(ResetVerdict::Shape);
+    };
+    let made = is_made(alloc, user, keys, token, number)?;
+    if !made {
+        return Ok(ResetVerdict::Mismatch);
+    }
+    Ok(verdict_by_age(number, now))
+}
+
 /// Whether a token is valid for a user at a moment, as Django's `check_token`. Refusals come in the
 /// order of the enum, and memory is asked for after `Shape`. A number whose moment is still to come
 /// has the age 0.
@@ -77,18 +113,35 @@ pub fn check_token(
     ensures expired { (¬ IsErrOf result ResetFault.Memory) → (age : ℕ)
         → (IsErrOf result (ResetFault.Expired age) ↔ IsExpired token.now (row_of user.now) keys.now now age) }
 {
-    let Some(number) = number_of(token) else {
-        return Err(ResetFault::Shape);
-    };
-    let made = is_made(alloc, user, keys, token, number)?;
-    if !made {
-        return Err(ResetFault::Mismatch);
+    let verdict = judge_token(alloc, user, keys, token, now)?;
+    accepted(verdict)
+}
+
+fn accepted(verdict: ResetVerdict) -> Result<(), ResetFault>
+    ensures ok { IsOk result ↔ (verdict ≡ ResetVerdict.Valid) }
+    ensures shape { IsErrOf result ResetFault.Shape ↔ (verdict ≡ ResetVerdict.Shape) }
+    ensures mismatch { IsErrOf result ResetFault.Mismatch ↔ (verdict ≡ ResetVerdict.Mismatch) }
+    ensures expired { (age : ℕ) → (IsErrOf result (ResetFault.Expired age) ↔ (verdict ≡ ResetVerdict.Expired age)) }
+{
+    match verdict {
+        ResetVerdict::Valid => Ok(()),
+        ResetVerdict::Shape => Err(ResetFault::Shape),
+        ResetVerdict::Mismatch => Err(ResetFault::Mismatch),
+        ResetVerdict::Expired { age } => Err(ResetFault::Expired { age }),
     }
+}
+
+// What a token is that was made for the user at the number.
+fn verdict_by_age(number: u64, now: u64) -> ResetVerdict
+    requires { IsMoment now }
+    ensures { result ≡ verdict_by_age number now }
+{
     let age = (now - SECONDS_TO_2001).saturating_sub(number);
     if age > MOST_AGE {
-        return Err(ResetFault::Expired { age });
+        ResetVerdict::Expired { age }
+    } else {
+        ResetVerdict::Valid
     }
-    Ok(())
 }
 
 fn number_of(token: &str) -> Option<u64>

@@ -82,6 +82,34 @@ fn a_token_is_checked_in_order(rt: HostRuntime) -> Result<(), Fail> {
 }
 
 #[test]
+fn a_token_is_judged(rt: HostRuntime) -> Result<(), Fail> {
+    let alloc = rt.alloc();
+    let keys = key_list(alloc)?;
+    for (token, now, verdict) in [
+        (TOKEN, NOW - 1, ResetVerdict::Valid),
+        (TOKEN, NOW + 259_200, ResetVerdict::Valid),
+        (TOKEN, NOW + 259_201, ResetVerdict::Expired { age: 259_201 }),
+        (FALLBACK_TOKEN, NOW, ResetVerdict::Valid),
+        (
+            "0bxodq8-d724229790748b8521ce1883b7d970ac",
+            NOW,
+            ResetVerdict::Mismatch,
+        ),
+        ("cwy9s-2c92", NOW, ResetVerdict::Mismatch),
+        ("abc", NOW, ResetVerdict::Shape),
+        ("abc-1-2", NOW, ResetVerdict::Shape),
+        ("00000000000001-1", NOW, ResetVerdict::Shape),
+    ] {
+        assert!(rt; is_moment(now));
+        assert!(rt;
+            judge_token(alloc, &ALICE, &keys, token, now) == Ok(verdict),
+            "{token} {now}"
+        );
+    }
+    Ok(())
+}
+
+#[test]
 fn a_token_of_another_row_is_refused(rt: HostRuntime) -> Result<(), Fail> {
     let alloc = rt.alloc();
     let keys = key_list(alloc)?;

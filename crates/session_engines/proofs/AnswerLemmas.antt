@@ -1,8 +1,12 @@
 -- What a keeper answered, by what its tables hold.
-use Rattle.std.proofs.Common.{◌≡◌, List, [], All, ap, subst, sym, ◌∙◌}
+use Rattle.std.proofs.Common.{◌≡◌, List, [], All, IfSome, Option, Some, ap, subst, sym, ◌∙◌}
 use Rattle.std.specs.Prelude.{Result, Ok, Err}
 use Rattle.std.proofs.lemmas.List.Elements.{All-nil}
 use Rattle.ledger_rows.specs.Replies.{IsReplyOf}
+use Rattle.crypto_text.specs.TextList.{AreDifferent}
+use Rattle.ledger_rows.proofs.UserLemmas.{names_stay_different}
+use Rattle.ledger_rows.specs.Opening.{names_of_users}
+use Rattle.ledger_rows.specs.Rows.{AreInOrder}
 use Rattle.ledger_rows.specs.Step.{reply_to, tables_after}
 use Rattle.ledger_rows.specs.Tables.{Tables}
 use Rattle.ledger_rows.specs.declared.operation.Op.{Op}
@@ -10,7 +14,7 @@ use Rattle.ledger_rows.specs.declared.reply.Reply.{Reply}
 use Rattle.ledger_rows.specs.declared.rows.Cfg.{Cfg}
 use Rattle.keepers.specs.declared.change.Change.{Change}
 use Rattle.keepers.specs.declared.keeper.KeeperFault.{KeeperFault}
-use Rattle.keepers.specs.Keeper.{Answers, Contents, IsSoundChange, Kept, OnHolding, Report, Unreported, Fresh, Holding, changed_by}
+use Rattle.keepers.specs.Keeper.{Answers, Contents, IsSoundChange, KeepsNames, Kept, OnHolding, Report, Unreported, Fresh, Holding, changed_by}
 use Rattle.session_engines.specs.Taking.{IsAnswer, uncached}
 use Rattle.session_engines.specs.declared.answer.Answer.{Answer}
 
@@ -73,3 +77,13 @@ answer-by cfg op kept answer reply changes P reply_is changes_are kind sound fou
       (λ contents is. ap (λ cs. changed_by cs contents.tables) changes_are ∙ leaves contents is);
   sound = subst (λ (cs : List Change). All IsSoundChange cs) (sym changes_are) sound;
 }
+
+-- what an operation leaves has no two users of one name
+pub answer-names : (cfg : Cfg) (op : Op) (kept : Kept) (answer : Answer) → IsAnswer cfg op kept answer → KeepsNames answer.changes.items kept.report
+answer-names cfg op kept answer is =
+    on_holding kept.report (λ contents. changed_by answer.changes.items contents.tables ≡ tables_after cfg.engine op contents.tables)
+    (λ contents. AreInOrder contents.tables → AreDifferent (names_of_users (changed_by answer.changes.items contents.tables).users)) is.changes
+    (λ contents left order. subst (λ (tables : Tables). AreDifferent (names_of_users tables.users)) (sym left) (names_stay_different op contents.tables order))
+
+pub some-answer : (cfg : Cfg) (op : Op) (kept : Kept) (found : Option Answer) (answer : Answer) → found ≡ Some answer → IfSome found (IsAnswer cfg op kept) → IsAnswer cfg op kept answer
+some-answer cfg op kept found answer is answers = subst (λ (f : Option Answer). IfSome f (IsAnswer cfg op kept)) is answers

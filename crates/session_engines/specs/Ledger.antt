@@ -1,8 +1,8 @@
 -- What is seen of a ledger, what a step does to it, and when it is sound.
-use Rattle.std.specs.Prelude.{◌≡◌, ◌<◌, ◌≤◌, ◌+◌, ◌^◌, ℕ, List, [], ◌∷◌, ◌++◌, Result, Ok, Err}
+use Rattle.std.specs.Prelude.{◌≡◌, ◌<◌, ◌≤◌, ◌+◌, ◌^◌, ◌⊎◌, ⊤, ℕ, List, [], ◌∷◌, ◌++◌, Result, Ok, Err}
 use Rattle.outside.specs.Faults.{Rose}
 use Rattle.ledger_rows.specs.State.{State}
-use Rattle.ledger_rows.specs.Step.{cache_after, reply_to, tables_after}
+use Rattle.ledger_rows.specs.Step.{RunsOut, cache_after, reply_to, tables_after}
 use Rattle.ledger_rows.specs.History.{IsLegal}
 use Rattle.ledger_rows.specs.Replies.{IsReplyOf}
 use Rattle.ledger_rows.specs.declared.rows.Cfg.{Cfg}
@@ -11,6 +11,7 @@ use Rattle.ledger_rows.specs.declared.rows.SessionRow.{SessionRow}
 use Rattle.ledger_rows.specs.declared.entry.Entry.{Entry}
 use Rattle.ledger_rows.specs.declared.entry.Tag.{Tag}
 use Rattle.ledger_rows.specs.declared.operation.Op.{Op}
+use Rattle.ledger_rows.specs.declared.operation.Op.TheVariants.{AddUser, MakeReset}
 use Rattle.ledger_rows.specs.declared.reply.Reply.{Reply}
 use Rattle.keepers.specs.Keeper.{Contents, Kept, OnHolding, Report, Unreported, Fresh, Holding}
 use Rattle.session_engines.specs.declared.step_fault.StepFault.{StepFault}
@@ -70,26 +71,36 @@ pub record IsShort (old new : Kept) : Type 0 where
   pub room : HasRoom old
   pub faults : new.faults ≡ old.faults
 
--- the audit list is full
-pub record IsFull (old new : Kept) : Type 0 where
-  pub full : 2 ^ 62 ≤ old.entry_count
+-- the operation draws ids
+abbrev pub DrawsIds : Op → Type 0
+DrawsIds (AddUser name email password superuser) = ⊤
+DrawsIds (MakeReset email now) = ⊤
+DrawsIds _ = ⊥
+
+-- the ids that the operation draws have run out, where that is reported
+abbrev pub MayRunOut : Op → Report → Type 0
+MayRunOut op report = DrawsIds op × OnHolding report (λ contents. RunsOut op contents.tables)
+
+-- the audit list is full, or the ids that the operation draws have run out
+pub record IsFull (op : Op) (old new : Kept) : Type 0 where
+  pub full : (2 ^ 62 ≤ old.entry_count) ⊎ MayRunOut op old.report
   pub faults : new.faults ≡ old.faults
 
 -- why a step was refused
-abbrev pub HasCause : Kept → Kept → StepFault → Type 0
-HasCause old new (Keeper before after) = HasFailed old new before after
-HasCause old new Full = IsFull old new
-HasCause old new Memory = IsShort old new
+abbrev pub HasCause : Op → Kept → Kept → StepFault → Type 0
+HasCause op old new (Keeper before after) = HasFailed old new before after
+HasCause op old new Full = IsFull op old new
+HasCause op old new Memory = IsShort old new
 
 -- a step was refused, and nothing but the count of faults is changed
-pub record IsRefusedStep (old : LedgerView) (fault : StepFault) (new : LedgerView) : Type 0 where
-  pub cause : HasCause old.kept new.kept fault
+pub record IsRefusedStep (op : Op) (old : LedgerView) (fault : StepFault) (new : LedgerView) : Type 0 where
+  pub cause : HasCause op old.kept new.kept fault
   pub ledger : new ≡ record old { kept = record old.kept { faults = new.kept.faults } }
 
 -- what a step does to a ledger, by its result
 abbrev pub Steps : LedgerView → Tag → Op → Result Reply StepFault → LedgerView → Type 0
 Steps old tag op (Ok reply) new = HasStepped old (record { tag = tag; op = op }) reply new
-Steps old tag op (Err fault) new = IsRefusedStep old fault new
+Steps old tag op (Err fault) new = IsRefusedStep op old fault new
 
 -- a ledger's audit list is a legal history in its engine, with the state that it leaves, and its start is the last one
 pub record HasLegalHistory (ledger : LedgerView) (contents : Contents) : Type 0 where

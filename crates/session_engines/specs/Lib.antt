@@ -2,6 +2,8 @@
 pub mod KeyChange
 pub mod Ledger
 pub mod Loading
+pub mod Mailing
 pub mod OpenFault
 pub mod Start
 pub mod Taking
+pub mod UserChange

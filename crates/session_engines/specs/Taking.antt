@@ -9,7 +9,7 @@ use Rattle.ledger_rows.specs.declared.operation.Op.{Op}
 use Rattle.ledger_rows.specs.declared.reply.Reply.{Reply}
 use Rattle.ledger_rows.specs.declared.rows.Cfg.{Cfg}
 use Rattle.keepers.specs.Keeper.{IsSoundChange, Kept, OnHolding, changed_by}
-use Rattle.session_engines.specs.Ledger.{kept_after}
+use Rattle.session_engines.specs.Ledger.{MayRunOut, kept_after}
 use Rattle.session_engines.specs.declared.answer.Answer.{Answer}
 
 -- the state of tables without a cache
@@ -31,3 +31,8 @@ pub record IsAnswer (cfg : Cfg) (op : Op) (kept : Kept) (answer : Answer) : Type
 pub record HasTaken (cfg : Cfg) (entry : Entry) (old : Kept) (answer : Reply) (new : Kept) : Type 0 where
   pub reply : IsReplyOver cfg entry.op old answer
   pub kept : new ≡ kept_after cfg.engine entry old
+
+-- nothing was done: the ids that the operation draws have run out
+pub record HasRunOut (op : Op) (old new : Kept) : Type 0 where
+  pub ids : MayRunOut op old.report
+  pub kept : new ≡ old

@@ -22,6 +22,9 @@ use std::marker::Model;
 /// The most entries that an audit list has.
 pub const MOST_ENTRIES: u64 = 1 << 62;
 
+/// Ids, and the numbers of starts, are below this.
+pub const NUMBERS_END: u64 = 1 << 62;
+
 /// The store under a site's configuration, from one start on.
 #[derive(Drop)]
 pub struct Ledger<K: Keeper> {
@@ -107,7 +110,8 @@ impl<K: Keeper> Ledger<K> {
         }
         let before = self.keeper.faults();
         match take(alloc, &mut self.keeper, &self.cfg, tag, op) {
-            Ok(reply) => Ok(reply),
+            Ok(Some(reply)) => Ok(reply),
+            Ok(None) => Err(StepFault::Full),
             Err(KeeperFault::Memory) => Err(StepFault::Memory),
             Err(KeeperFault::Failed) => Err(StepFault::Keeper {
                 before,

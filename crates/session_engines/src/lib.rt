@@ -7,10 +7,12 @@ mod keys;
 mod ledger;
 mod load;
 mod open_fault;
+mod resets;
 mod sessions;
 mod start;
 mod step;
 mod step_fault;
+mod users;
 
 pub use crate::ledger::Ledger;
 pub use crate::open_fault::OpenFault;

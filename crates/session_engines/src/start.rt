@@ -5,7 +5,7 @@ ghost use Rattle.ledger_rows.specs.Opening.{IsOpening};
 ghost use Rattle.keepers.specs.Keeper.{IsRefused, MayHold};
 ghost use Rattle.session_engines.specs.Start.{HasStarted, IsRefusedStart, boot_entry, ready};
 
-use crate::ledger::MOST_ENTRIES;
+use crate::ledger::{MOST_ENTRIES, NUMBERS_END};
 use crate::open_fault::StartFault;
 use keepers::{Change, Keeper, KeeperFault};
 use ledger_rows::{Engine, Entry, Op, Opening, Tag};
@@ -28,7 +28,7 @@ pub fn start<K: Keeper>(
     }
     make_ready(alloc, keeper, opening)?;
     let boot = keeper.boots()? + 1;
-    if boot >= MOST_ENTRIES {
+    if boot >= NUMBERS_END {
         return Err(StartFault::Full);
     }
     keeper.commit(alloc, &start_entry(boot), &[Change::PutBoot(boot)])?;

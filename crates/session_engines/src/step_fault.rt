@@ -8,8 +8,8 @@ pub enum StepFault {
     /// The keeper's counts of faults before the step and after it.
     #[error("the store failed")]
     Keeper { before: u64, after: u64 },
-    /// There are 2^62 entries.
-    #[error("the audit list is full")]
+    /// There are 2^62 entries, or the operation would give an id of 2^62 or above.
+    #[error("the audit list is full, or the ids have run out")]
     Full,
     #[error("out of memory")]
     Memory,

@@ -1,5 +1,5 @@
 -- A request that is under way goes on by a step, and is driven once it has ended.
-use Rattle.std.proofs.Common.{◌≡◌, ℕ, zero, suc, ◌+◌, ◌-◌, ◌≤◌, List, [], ◌∷◌, ◌++◌, length, Option, Some, None, refl, sym, ap, ◌∙◌, subst, arith, add-zero, length-append, inl, inr}
+use Rattle.std.proofs.Common.{◌≡◌, ℕ, zero, suc, ◌+◌, ◌-◌, ◌≤◌, List, [], ◌∷◌, ◌++◌, length, Option, Some, None, refl, sym, ap, ◌∙◌, subst, arith, add-zero, length-append, inl, inr, Err}
 use Rattle.std.specs.Prelude.{IfSome}
 use Rattle.ledger_rows.specs.declared.entry.Tag.{Tag}
 use Rattle.ledger_rows.specs.declared.operation.Op.{Op}
@@ -11,9 +11,9 @@ use Rattle.account_views.specs.Script.{Steps, Return, Ask}
 use Rattle.account_views.specs.Walk.{AtMost, Event, IsProper, Leads}
 use Rattle.session_engines.specs.declared.step_fault.StepFault.{StepFault}
 use Rattle.session_engines.specs.declared.step_fault.StepFault.TheVariants.{Keeper, Full, Memory}
-use Rattle.site_server.specs.Outcome.{Done, IsLastTurn, OutOfMemory, Server, answer_of, tag_of, turns_from}
+use Rattle.site_server.specs.Outcome.{Done, IsAsking, IsLastTurn, MayEnd, OutOfMemory, Server, answer_of, tag_of, turns_from}
 use Rattle.site_server.specs.Step.{IsAdvance, IsDriven, ending_of}
-use Rattle.site_server.specs.Turns.{Did, Turn}
+use Rattle.site_server.specs.Turns.{Did, Failed, HadNoRoom, Turn, turns_of_step}
 use Rattle.site_server.specs.declared.driving.Advance.{Advance}
 use Rattle.site_server.specs.declared.driving.Advance.TheVariants.{Answered, Refused, Replied}
 
@@ -169,3 +169,11 @@ driven_nowhere passed script server number r first none = record {
 pub status_of_answer : (now : Steps Response) (after : Reply → Steps Response) (tag : Tag) (Passed : List Turn → Type 0) (response : Response)
     → IsProper now → IsAdvance now after tag Passed (Answered response) → IsStatus response.status
 status_of_answer now after tag Passed response proper (ends, none) = subst (λ s. IsProper s) ends proper
+
+-- ---- a step that was refused
+
+pub refused_step : (now : Steps Response) (op : Op) (rest : Reply → Steps Response) (tag : Tag) (fault : StepFault) (Passed : List Turn → Type 0) → Ask op rest ≡ now
+    → Passed (turns_of_step tag op (Err fault)) → MayEnd now (ending_of fault) × ((turns : List Turn) × IsLastTurn (ending_of fault) turns × Passed turns)
+refused_step now op rest tag (Keeper before after) Passed asks passed = (subst IsAsking asks tt, (Failed ∷ [], refl, passed))
+refused_step now op rest tag Full Passed asks passed = (subst IsAsking asks tt, (HadNoRoom op ∷ [], (op, refl), passed))
+refused_step now op rest tag Memory Passed asks passed = (tt, ([], inl refl, passed))

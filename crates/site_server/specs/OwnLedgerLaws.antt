@@ -1,5 +1,5 @@
 -- What turns did to a ledger that one worker has for itself: none did nothing, and turns add up.
-use Rattle.std.proofs.Common.{◌≡◌, ℕ, suc, ◌+◌, ◌≤◌, List, [], ◌∷◌, ◌++◌, length, Option, Some, option_map, Result, Ok, Err, refl, sym, ap, ◌∙◌, subst, arith, append-nil, append_assoc, length-append}
+use Rattle.std.proofs.Common.{◌≡◌, ℕ, suc, ◌+◌, ◌≤◌, List, [], ◌∷◌, ◌++◌, length, Option, Some, option_map, Result, Ok, Err, refl, sym, ap, ◌∙◌, subst, arith, append-nil, append_assoc, length-append, inl, inr, ⊎_elim}
 use Rattle.std.proofs.lemmas.List.Sums.{fold-append}
 use Rattle.ledger_rows.specs.History.{IsLegal, entry_at, reply_at, state_at}
 use Rattle.ledger_rows.specs.State.{State}
@@ -37,7 +37,10 @@ HadRoom-append : (one other : List Turn) (count later : ℕ) → count ≤ later
 HadRoom-append [] other count later le had also = also
 HadRoom-append (Did tag op reply ∷ one) other count later le had also = HadRoom-append one other count later le had also
 HadRoom-append (Failed ∷ one) other count later le had also = HadRoom-append one other count later le had also
-HadRoom-append (HadNoRoom op ∷ one) other count later le had also = (omega (arith, had.0), HadRoom-append one other count later le had.1 also)
+HadRoom-append (HadNoRoom op ∷ one) other count later le had also = (
+  ⊎_elim (λ full. inl (omega (arith, full))) (λ draws. inr draws) had.0,
+  HadRoom-append one other count later le had.1 also,
+)
 
 RoseBy-none : (count : ℕ) → RoseBy 0 count count
 RoseBy-none count = omega arith
@@ -238,11 +241,11 @@ turned-step found left tag op (Err fault) steps sound = refused fault steps.caus
       room = had;
     }
 
-    refused : (cause : StepFault) → HasCause found.kept left.kept cause → HaveTurned (turns_of_step tag op (Err cause)) found left
+    refused : (cause : StepFault) → HasCause op found.kept left.kept cause → HaveTurned (turns_of_step tag op (Err cause)) found left
     refused (Keeper before after) is =
         let rose : RoseBy 1 found.kept.faults left.kept.faults = let up = is.rose in omega (arith, is.before, is.after) in
         unchanged (Failed ∷ []) refl rose tt (on_nothing left.kept.report)
     refused Full is =
         let same : left.kept.entry_count ≡ found.kept.entry_count = ap (λ (l : LedgerView). l.kept.entry_count) steps.ledger in
-        unchanged (HadNoRoom op ∷ []) refl (omega (arith, is.faults)) (omega (arith, is.full), tt) (on_nothing left.kept.report)
+        unchanged (HadNoRoom op ∷ []) refl (omega (arith, is.faults)) (⊎_elim (λ full. inl (omega (arith, full))) (λ ran. inr ran.0) is.full, tt) (on_nothing left.kept.report)
     refused Memory is = unchanged [] refl (omega (arith, is.faults)) tt (on_nothing left.kept.report)

@@ -1,5 +1,5 @@
 -- What the steps of a worker did to the store: each was done and entered, or refused.
-use Rattle.std.specs.Prelude.{◌≡◌, ◌≤◌, ◌+◌, ◌^◌, ℕ, suc, min, ◌-◌, List, [], ◌∷◌, Some, Result, Ok, Err}
+use Rattle.std.specs.Prelude.{◌≡◌, ◌≤◌, ◌+◌, ◌^◌, ◌⊎◌, ℕ, suc, min, ◌-◌, List, [], ◌∷◌, Some, Result, Ok, Err}
 use Rattle.ledger_rows.specs.History.{entry_at, reply_at}
 use Rattle.ledger_rows.specs.declared.entry.Entry.{Entry}
 use Rattle.ledger_rows.specs.declared.entry.Tag.{Tag}
@@ -7,6 +7,7 @@ use Rattle.ledger_rows.specs.declared.operation.Op.{Op}
 use Rattle.ledger_rows.specs.declared.reply.Reply.{Reply}
 use Rattle.ledger_rows.specs.declared.rows.Cfg.{Cfg}
 use Rattle.ledger_rows.specs.declared.rows.Opening.{Opening}
+use Rattle.session_engines.specs.Ledger.{DrawsIds}
 use Rattle.session_engines.specs.declared.step_fault.StepFault.{StepFault}
 use Rattle.session_engines.specs.declared.step_fault.StepFault.TheVariants.{Keeper, Full, Memory}
 
@@ -40,7 +41,7 @@ abbrev pub RoseBy : ℕ → ℕ → ℕ → Type 0
 RoseBy faults before now = min (before + faults) (2 ^ 64 - 1) ≤ now
 
 -- each step that was done has its entry in the audit list, at an index of its own from this one on, in the order of the
--- steps; and its reply is the one of the state at that index. One that had no room found the list full
+-- steps; and its reply is the one of the state at that index
 abbrev pub StandFrom : Cfg → Opening → List Entry → ℕ → List Turn → Type 0
 StandFrom cfg opening entries from [] = Unit {0}
 StandFrom cfg opening entries from (Did tag op reply ∷ turns) =
@@ -49,8 +50,8 @@ StandFrom cfg opening entries from (Did tag op reply ∷ turns) =
 StandFrom cfg opening entries from (Failed ∷ turns) = StandFrom cfg opening entries from turns
 StandFrom cfg opening entries from (HadNoRoom op ∷ turns) = StandFrom cfg opening entries from turns
 
--- where a step had no room, the audit list has so many entries
+-- where a step had no room, the audit list has so many entries, or the operation is one that draws ids
 abbrev pub HadRoom : ℕ → List Turn → Type 0
 HadRoom count [] = Unit {0}
-HadRoom count (HadNoRoom op ∷ turns) = (2 ^ 62 ≤ count) × HadRoom count turns
+HadRoom count (HadNoRoom op ∷ turns) = ((2 ^ 62 ≤ count) ⊎ DrawsIds op) × HadRoom count turns
 HadRoom count (_ ∷ turns) = HadRoom count turns

@@ -1,5 +1,8 @@
 //! The operations of the store, over a keeper in memory of which each call fails in turn.
 
+mod resets;
+mod users;
+
 use super::*;
 use ledger_rows::{Reply, Verdict, op_ok};
 use session_engines::{Ledger, StepFault};
@@ -17,6 +20,32 @@ fn operations_on_sessions_are_answered(rt: HostRuntime) -> Result<(), Fail> {
     // Four calls open the store, and the last of the others has a number below 48.
     for fail_at in 4..48 {
         assert_eq!(rt; first_wrong(alloc, fail_at, 0, 14)?, None, "call {fail_at}");
+    }
+    Ok(())
+}
+
+#[test]
+fn operations_on_users_are_answered(rt: HostRuntime) -> Result<(), Fail> {
+    let alloc = rt.alloc();
+    for fail_at in 4..80 {
+        assert_eq!(rt;
+            first_wrong(alloc, fail_at, 36, 60)?,
+            None,
+            "call {fail_at}"
+        );
+    }
+    Ok(())
+}
+
+#[test]
+fn operations_on_resets_are_answered(rt: HostRuntime) -> Result<(), Fail> {
+    let alloc = rt.alloc();
+    for fail_at in 4..80 {
+        assert_eq!(rt;
+            first_wrong(alloc, fail_at, 60, 77)?,
+            None,
+            "call {fail_at}"
+        );
     }
     Ok(())
 }
@@ -75,13 +104,31 @@ fn first_wrong_answer<K: Keeper>(
     end: usize,
 ) -> Result<Option<usize>, AllocError> {
     for at in first..end {
-        let op = operation(alloc, at)?;
-        let due = reply(alloc, at)?;
-        if !is_answered(alloc, ledger, &op, &due)? {
+        if !is_answered_at(alloc, ledger, at)? {
             return Ok(Some(at));
         }
     }
     Ok(None)
+}
+
+// Operation and reply are owned by two functions, so that the proof of neither has to drop both.
+fn is_answered_at<K: Keeper>(
+    alloc: Global,
+    ledger: &mut Ledger<K>,
+    at: usize,
+) -> Result<bool, AllocError> {
+    let op = operation(alloc, at)?;
+    is_answered_by(alloc, ledger, at, &op)
+}
+
+fn is_answered_by<K: Keeper>(
+    alloc: Global,
+    ledger: &mut Ledger<K>,
+    at: usize,
+    op: &Op,
+) -> Result<bool, AllocError> {
+    let due = reply(alloc, at)?;
+    is_answered(alloc, ledger, op, &due)
 }
 
 // The first entry is that of the start.
@@ -152,6 +199,14 @@ fn tag() -> Tag {
 
 fn operation(alloc: Global, at: usize) -> Result<Op, AllocError> {
     match at {
+        0..36 => on_sessions_and_keys(alloc, at),
+        36..60 => users::operation(alloc, at),
+        _ => resets::operation(alloc, at),
+    }
+}
+
+fn on_sessions_and_keys(alloc: Global, at: usize) -> Result<Op, AllocError> {
+    match at {
         0 | 1 => Ok(Op::Create {
             key: text_of(alloc, NEW_KEY)?,
             payload: text_of(alloc, "{}")?,
@@ -213,6 +268,14 @@ fn load_at(alloc: Global, cookie: &str, seconds: u64) -> Result<Op, AllocError> 
 }
 
 fn reply(alloc: Global, at: usize) -> Result<Reply, AllocError> {
+    match at {
+        0..36 => to_sessions_and_keys(alloc, at),
+        36..60 => users::reply(alloc, at),
+        _ => resets::reply(alloc, at),
+    }
+}
+
+fn to_sessions_and_keys(alloc: Global, at: usize) -> Result<Reply, AllocError> {
     match at {
         0 | 2 => stored(alloc, NEW_KEY),
         1 | 6 => Ok(Reply::Taken),
