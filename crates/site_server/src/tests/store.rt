@@ -128,7 +128,18 @@ fn is_answered_by<K: Keeper>(
     op: &Op,
 ) -> Result<bool, AllocError> {
     let due = reply(alloc, at)?;
-    is_answered(alloc, ledger, op, &due)
+    is_answered_as(alloc, ledger, op, &due)
+}
+
+// A copy of the reply is compared, so that each reply is copied once.
+fn is_answered_as<K: Keeper>(
+    alloc: Global,
+    ledger: &mut Ledger<K>,
+    op: &Op,
+    due: &Reply,
+) -> Result<bool, AllocError> {
+    let copy = due.copy(alloc)?;
+    is_answered(alloc, ledger, op, &copy)
 }
 
 // The first entry is that of the start.
