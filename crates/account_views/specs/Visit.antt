@@ -1,32 +1,35 @@
--- Who came, by the reply to the load of the session, as Django's `get_user` finds it.
-use Rattle.std.specs.Prelude.{ℕ, Bool, true, false, ◌||◌, bytes_eq, List, Option, None, Some}
-use Rattle.ledger_rows.specs.Step.{empty_payload}
+-- Who came, and with which session, by the reply to the load, as Django's `get_user` finds it.
+use Rattle.std.specs.Prelude.{ℕ, Bool, true, false, nat_lt, if◌then◌else◌, List, Option, None, Some, unwrap_or}
+use Rattle.serde_json.specs.Data.{Members, no_members}
+use Rattle.session_codec.specs.SessionText.{map_of_payload}
 use Rattle.ledger_rows.specs.declared.reply.Reply.{Reply}
 use Rattle.ledger_rows.specs.declared.reply.Reply.TheVariants.{Loaded}
 use Rattle.ledger_rows.specs.declared.reply.UserRead.{UserRead}
 use Rattle.ledger_rows.specs.declared.verdict.Verdict.{Verdict}
-use Rattle.ledger_rows.specs.declared.verdict.Verdict.TheVariants.{BadHash}
+use Rattle.ledger_rows.specs.declared.verdict.Verdict.TheVariants.{BadHash, Admitted}
+use Rattle.auth_backends.specs.SessionBox.{flushed, rehashed}
+use Rattle.auth_backends.specs.declared.session_box.SessionBox.{SessionBox}
 use Rattle.account_views.specs.declared.visit.Visit.{Visit}
 
--- the user who is admitted; a reply of another kind gives none
-abbrev pub user_of : Reply → Option UserRead
-user_of (Loaded verdict key payload user) = user
-user_of _ = None
+-- the map that a payload says
+abbrev pub map_in : List ℕ → Members
+map_in payload = unwrap_or (map_of_payload payload) no_members
 
--- a session whose hash is none of the user's is flushed
-abbrev pub flushes : Verdict → Bool
-flushes BadHash = true
-flushes _ = false
+-- a session as it was loaded; to load it is to read it
+abbrev pub opened : Bool → Option (List ℕ) → Members → SessionBox
+opened came key map = record { came = came; key = key; map = map; dropped = None; cycle = false; accessed = true; modified = false }
 
--- a session without a key and with an empty map
-abbrev pub holds_nothing : Option (List ℕ) → List ℕ → Bool
-holds_nothing None payload = bytes_eq payload empty_payload
-holds_nothing (Some key) payload = false
+-- a session under a fallback key gets the hash of the first one, and a new key: Django's `get_user`
+abbrev pub admitted : ℕ → UserRead → SessionBox → Visit
+admitted key_index read session = record { session = if nat_lt 0 key_index then rehashed read.auth_hash session else session; user = Some read }
 
--- no session is left after the request
-abbrev pub is_session_empty : Reply → Bool
-is_session_empty (Loaded verdict key payload user) = flushes verdict || holds_nothing key payload
-is_session_empty _ = false
+-- a session whose hash is none of its user's is flushed
+abbrev pub met : Verdict → Option UserRead → SessionBox → Visit
+met BadHash user session = record { session = flushed session; user = None }
+met (Admitted key_index) (Some read) session = admitted key_index read session
+met _ user session = record { session = session; user = None }
 
-abbrev pub visit_of : Reply → Visit
-visit_of reply = record { user = user_of reply; session_empty = is_session_empty reply }
+-- a reply of another kind is that of a visitor of whom nothing is known
+abbrev pub visit_of : Bool → Reply → Visit
+visit_of came (Loaded verdict key payload user) = met verdict user (opened came key (map_in payload))
+visit_of came _ = record { session = opened came None no_members; user = None }

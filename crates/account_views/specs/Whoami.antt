@@ -2,7 +2,8 @@
 use Rattle.std.specs.Prelude.{ℕ, List, ◌++◌, Option, None, Some, codes}
 use Rattle.ledger_rows.specs.declared.reply.UserRead.{UserRead}
 use Rattle.middleware_chain.specs.Page.{line}
-use Rattle.account_views.specs.Script.{Steps, Return}
+use Rattle.account_views.specs.Page.{text_page}
+use Rattle.account_views.specs.declared.page.Viewed.{Viewed}
 use Rattle.account_views.specs.declared.visit.Visit.{Visit}
 
 -- who is asking
@@ -10,6 +11,5 @@ abbrev pub user_line : Option UserRead → List ℕ
 user_line None = codes "anonymous\n"
 user_line (Some read) = codes "user=" ++ line read.row.name
 
--- the page needs no step
-abbrev pub whoami : Visit → Steps (List ℕ)
-whoami visit = Return (user_line visit.user)
+abbrev pub whoami : Visit → Viewed
+whoami visit = record { page = text_page 200 (user_line visit.user); session = visit.session }

@@ -1,6 +1,6 @@
 -- What an answer to a password says, and that it is the only one.
 use Rattle.std.proofs.Common.{◌≡◌, ◌↔◌, ◌∙◌, ℕ, suc, List, [], ◌∷◌, All, Contains, Bool, true, false, true≢false, Option, Some, None, refl, sym, ap, subst, arith}
-use Rattle.std.specs.Prelude.{IsTrue, if◌then◌else◌}
+use Rattle.std.specs.Prelude.{Decides, IsTrue, if◌then◌else◌}
 use Rattle.std.proofs.lemmas.List.Elements.{All-head, All-tail}
 use Rattle.std.proofs.lemmas.Map.Made.{Contains-tail}
 use Rattle.std.proofs.lemmas.Option.{same_Some}
@@ -10,8 +10,10 @@ use Rattle.ledger_rows.specs.declared.rows.Backend.{Backend}
 use Rattle.ledger_rows.specs.declared.rows.Cfg.{Cfg}
 use Rattle.ledger_rows.specs.declared.rows.UserRow.{UserRow}
 use Rattle.ledger_rows.specs.declared.rows.Backend.TheVariants.{Model}
-use Rattle.auth_backends.specs.Laws.{EarnedIsYes, InactiveIsRefused, RefusedIsExact, WrongPasswordIsExact, YesIsEarned}
-use Rattle.auth_backends.specs.Authentication.{IsAnswer, IsBackendAnswer, IsPasswordAnswer, admitting_backend}
+use Rattle.auth_backends.specs.Laws.{AnswerOfIsAnswer, EarnedIsYes, InactiveIsRefused, RefusedIsExact, WrongPasswordIsExact, YesIsEarned}
+use Rattle.auth_backends.specs.Authentication.{IsAnswer, IsBackendAnswer, IsPasswordAnswer, admitting_backend, answer_of, backend_answer_of, password_answer_of}
+use Rattle.auth_backends.specs.PasswordReading.{is_outdated, verifies}
+use Rattle.auth_backends.proofs.PasswordReadingLemmas.{is_outdated-Decides, verifies-Decides}
 use Rattle.auth_backends.specs.declared.authentication.AuthAnswer.{AuthAnswer}
 use Rattle.auth_backends.specs.declared.authentication.AuthAnswer.TheVariants.{Yes, WrongPassword, Refused}
 
@@ -43,6 +45,30 @@ pub one_answer : (row : Option UserRow) (password : List ℕ) (cfg : Cfg) (first
     → IsAnswer row password cfg first → IsAnswer row password cfg second → first ≡ second
 one_answer None password cfg first second is other = is ∙ sym other
 one_answer (Some user) password cfg first second is other = one_of_backend user (admitting_backend cfg.backends user) password cfg first second is other
+
+-- ---- the answer as a function
+
+password_answer_is : (user : UserRow) (backend : Backend) (password : List ℕ) (cfg : Cfg)
+    → IsPasswordAnswer user backend password cfg (password_answer_of user backend password cfg)
+password_answer_is user backend password cfg = by (verifies password user.password cfg.installed) refl
+  where
+    tells : Decides (verifies password user.password cfg.installed) (Verifies password user.password cfg.installed)
+    tells = verifies-Decides password user.password cfg.installed
+
+    by : (yes : Bool) → verifies password user.password cfg.installed ≡ yes
+        → IsPasswordAnswer user backend password cfg (if yes then Yes backend (is_outdated user.password cfg.preferred) else WrongPassword)
+    by true is = let right = tells.0 is in (refl, right, is_outdated-Decides password user.password cfg.installed cfg.preferred right)
+    by false is = λ right. true≢false (sym (tells.1 right) ∙ is)
+
+backend_answer_is : (user : UserRow) (backend : Option Backend) (password : List ℕ) (cfg : Cfg)
+    → IsBackendAnswer user backend password cfg (backend_answer_of user backend password cfg)
+backend_answer_is user None password cfg = refl
+backend_answer_is user (Some backend) password cfg = password_answer_is user backend password cfg
+
+pub answer_of_is_answer : AnswerOfIsAnswer
+unfolding answer_of
+answer_of_is_answer None password cfg = refl
+answer_of_is_answer (Some user) password cfg = backend_answer_is user (admitting_backend cfg.backends user) password cfg
 
 -- ---- the backend that admits
 

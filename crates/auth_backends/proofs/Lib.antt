@@ -1,2 +1,3 @@
 pub mod AuthenticationLemmas
+pub mod PasswordReadingLemmas
 pub mod SessionBoxLemmas

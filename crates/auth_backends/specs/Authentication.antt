@@ -5,6 +5,7 @@ use Rattle.ledger_rows.specs.Admission.{admits}
 use Rattle.ledger_rows.specs.declared.rows.Backend.{Backend}
 use Rattle.ledger_rows.specs.declared.rows.Cfg.{Cfg}
 use Rattle.ledger_rows.specs.declared.rows.UserRow.{UserRow}
+use Rattle.auth_backends.specs.PasswordReading.{is_outdated, verifies}
 use Rattle.auth_backends.specs.declared.authentication.AuthAnswer.{AuthAnswer}
 use Rattle.auth_backends.specs.declared.authentication.AuthAnswer.TheVariants.{Yes, WrongPassword, Refused}
 
@@ -32,3 +33,20 @@ IsBackendAnswer user (Some backend) password cfg answer = IsPasswordAnswer user 
 abbrev pub IsAnswer : Option UserRow → List ℕ → Cfg → AuthAnswer → Type 0
 IsAnswer None password cfg answer = answer ≡ Refused
 IsAnswer (Some user) password cfg answer = IsBackendAnswer user (admitting_backend cfg.backends user) password cfg answer
+
+-- ---- the same answer as a function
+
+-- the answer to a password for a user whom the backend admits
+abbrev pub password_answer_of : UserRow → Backend → List ℕ → Cfg → AuthAnswer
+password_answer_of user backend password cfg =
+    if verifies password user.password cfg.installed then Yes backend (is_outdated user.password cfg.preferred) else WrongPassword
+
+-- the answer to a password for a user, by the backend that admits the user
+abbrev pub backend_answer_of : UserRow → Option Backend → List ℕ → Cfg → AuthAnswer
+backend_answer_of user None password cfg = Refused
+backend_answer_of user (Some backend) password cfg = password_answer_of user backend password cfg
+
+-- the answer to a name and a password, by the row that has the name
+unfoldable pub answer_of : Option UserRow → List ℕ → Cfg → AuthAnswer
+answer_of None password cfg = Refused
+answer_of (Some user) password cfg = backend_answer_of user (admitting_backend cfg.backends user) password cfg

@@ -11,7 +11,7 @@ use Rattle.ledger_rows.specs.declared.rows.Backend.{Backend}
 use Rattle.ledger_rows.specs.declared.rows.Backend.TheVariants.{Model}
 use Rattle.ledger_rows.specs.declared.rows.Cfg.{Cfg}
 use Rattle.ledger_rows.specs.declared.rows.UserRow.{UserRow}
-use Rattle.auth_backends.specs.Authentication.{IsAnswer}
+use Rattle.auth_backends.specs.Authentication.{IsAnswer, answer_of}
 use Rattle.auth_backends.specs.SessionBox.{flushed, kept_hash, login_changed, rehashed}
 use Rattle.auth_backends.specs.declared.authentication.AuthAnswer.{AuthAnswer}
 use Rattle.auth_backends.specs.declared.authentication.AuthAnswer.TheVariants.{Yes, WrongPassword, Refused}
@@ -23,6 +23,10 @@ use Rattle.auth_backends.specs.declared.session_box.SessionBox.{SessionBox}
 abbrev pub AnswerIsOne : Type 0
 AnswerIsOne = (row : Option UserRow) (password : List ℕ) (cfg : Cfg) (first second : AuthAnswer)
     → IsAnswer row password cfg first → IsAnswer row password cfg second → first ≡ second
+
+-- and there is one, which is the function's
+abbrev pub AnswerOfIsAnswer : Type 0
+AnswerOfIsAnswer = (row : Option UserRow) (password : List ℕ) (cfg : Cfg) → IsAnswer row password cfg (answer_of row password cfg)
 
 -- a password lets a user in by a backend: there is the user's row, the backend is configured and admits the user, and the
 -- password is the one of the row's text

@@ -3,7 +3,7 @@
 ghost use Rattle.std.specs.Prelude.{◌≡◌, ◌↔◌};
 ghost use Rattle.std.specs.Option.{option_copied};
 ghost use Rattle.ledger_rows.specs.Admission.{admits};
-ghost use Rattle.auth_backends.specs.Authentication.{IsAnswer, IsPasswordAnswer, admitting_backend};
+ghost use Rattle.auth_backends.specs.Authentication.{IsAnswer, IsPasswordAnswer, admitting_backend, answer_of};
 
 use ledger_rows::{Backend, Cfg, UserRow};
 use pass_hashers::{must_update, verify};
@@ -28,7 +28,8 @@ pub enum AuthAnswer {
 /// `ModelBackend` and `AllowAllUsersModelBackend`. Takes no memory. Where it refuses it hashes nothing, so its
 /// time differs from that of a wrong password.
 pub fn authenticate(row: Option<&UserRow>, password: &str, cfg: &Cfg) -> AuthAnswer
-    ensures { (answer : AuthAnswer) → (result ≡ answer) ↔ IsAnswer (option_copied row.entry) password.now cfg.now answer }
+    ensures is { (answer : AuthAnswer) → (result ≡ answer) ↔ IsAnswer (option_copied row.entry) password.now cfg.now answer }
+    ensures value { result ≡ answer_of (option_copied row.entry) password.now cfg.now }
 {
     answer_to(row, password, cfg)
 }

@@ -1,11 +1,16 @@
 //! Laws about the definitions of this crate. A law is a function that does nothing: its clause is
 //! the law, so the check of the crate proves it.
 
-ghost use Rattle.auth_backends.specs.Laws.{AnswerIsOne, EarnedIsYes, InactiveIsRefused, LoginChangesKey, LoginIsRead, LoginKeepsOwnEntries, LogoutLeavesNothing, RefusedIsExact, RehashKeepsLogin, WrongPasswordIsExact, YesIsEarned};
+ghost use Rattle.auth_backends.specs.Laws.{AnswerIsOne, AnswerOfIsAnswer, EarnedIsYes, InactiveIsRefused, LoginChangesKey, LoginIsRead, LoginKeepsOwnEntries, LogoutLeavesNothing, RefusedIsExact, RehashKeepsLogin, WrongPasswordIsExact, YesIsEarned};
 
 /// There is only one answer to a row and a password under a site's settings.
 pub fn answer_is_one()
     ensures { AnswerIsOne }
+{}
+
+/// There always is an answer, and it is a stated function of row, password and settings.
+pub fn answer_of_is_answer()
+    ensures { AnswerOfIsAnswer }
 {}
 
 /// A user gets in only by a configured backend that admits the user, with the right password.

@@ -20,10 +20,30 @@ max_age (Some age) = codes "; Max-Age=" ++ decimal age
 abbrev pub flag : Bool → List ℕ → List ℕ
 flag applies attribute = if applies then attribute else []
 
+-- a cookie that is set: an age in seconds, and the moment from which it counts
+pub record SentCookie : Type 0 where
+  pub name : List ℕ
+  pub value : List ℕ
+  pub age : Option ℕ
+  pub now : ℕ
+  pub http_only : Bool
+  pub secure : Bool
+
+-- what a call is given
+abbrev pub sent_cookie : CookieOut → SentCookie
+sent_cookie cookie = record {
+  name = cookie.name.now;
+  value = cookie.value.now;
+  age = cookie.age;
+  now = cookie.now;
+  http_only = cookie.http_only;
+  secure = cookie.secure;
+}
+
 -- the text that sets a cookie
-unfoldable pub text_of : CookieOut → List ℕ
+unfoldable pub text_of : SentCookie → List ℕ
 text_of cookie =
-    cookie.name.now ++ codes "=" ++ cookie.value.now ++ expires cookie.age cookie.now ++ flag cookie.http_only (codes "; HttpOnly")
+    cookie.name ++ codes "=" ++ cookie.value ++ expires cookie.age cookie.now ++ flag cookie.http_only (codes "; HttpOnly")
     ++ max_age cookie.age ++ codes "; Path=/; SameSite=Lax" ++ flag cookie.secure (codes "; Secure")
 
 -- the text that makes a client forget a cookie: an empty value that ended in 1970

@@ -2,7 +2,7 @@
 
 ghost use Rattle.std.specs.Prelude.{◌≡◌, ◌<◌, ◌≤◌, ◌++◌, IfOk, IfSome, OnOk, string_bytes};
 ghost use Rattle.cookie_text.specs.FixedDate.{fixed_date};
-ghost use Rattle.cookie_text.specs.SetCookie.{deletion_text, expires, flag, max_age, text_of};
+ghost use Rattle.cookie_text.specs.SetCookie.{deletion_text, expires, flag, max_age, sent_cookie, text_of};
 
 use crypto_text::{LAST_MOMENT, Text};
 use httpdate::{HttpDate, fmt_http_date};
@@ -27,7 +27,7 @@ pub struct CookieOut<'a> {
 pub fn set_cookie_text(alloc: Global, cookie: &CookieOut<'_>) -> Result<Text, AllocError>
     requires now { cookie.now.now ≤ LAST_MOMENT }
     requires age { IfSome cookie.now.age (λ age. age ≤ 3_153_600_000) }
-    ensures { IfOk result (λ text. text ≡ text_of cookie.entry.now) }
+    ensures { IfOk result (λ text. text ≡ text_of (sent_cookie cookie.entry.now)) }
 {
     let mut text = String::new(alloc);
     text.push_str(cookie.name)?;

@@ -11,6 +11,10 @@ letter_at n = slice_index letters62 n
 unfoldable pub index_of : ℕ → ℕ
 index_of c = unwrap_or (position (λ letter. letter == c) letters62) 62
 
+-- the letter that two letters add up to, counted in a circle of 62
+unfoldable pub sum_of : ℕ → ℕ → ℕ
+sum_of a b = letter_at ((index_of a + index_of b) % 62)
+
 -- the letter to which `b` is added where the sum is `sum`, counted in a circle of 62
 unfoldable pub difference_of : ℕ → ℕ → ℕ
 difference_of sum b = letter_at ((index_of sum + 62 - index_of b) % 62)

@@ -1,7 +1,7 @@
 //! The 62 letters of secrets and tokens, and their sums counted in a circle.
 
 ghost use Rattle.std.specs.Prelude.{◌≡◌, ◌+◌, ◌%◌, ◌<◌, ◌↔◌, IsTrue};
-ghost use Rattle.csrf_tokens.specs.Letters.{AreLetters, IsLetter, are_letters, difference_of, index_of, is_letter, letter_at};
+ghost use Rattle.csrf_tokens.specs.Letters.{AreLetters, IsLetter, are_letters, difference_of, index_of, is_letter, letter_at, sum_of};
 
 const LETTERS: &[u8; 62] = b"abcdefghijklmnopqrstuvwxyzABCDEFGHIJKLMNOPQRSTUVWXYZ0123456789";
 
@@ -22,11 +22,13 @@ fn is_letter(byte: u8) -> bool
 }
 
 /// The letter at `a` and `b` places from the start.
+#[tactic(auto, unfolding(crate::specs::Letters::sum_of))]
 pub fn sum_of(a: u8, b: u8) -> u8
     requires a_letter { IsLetter a }
     requires b_letter { IsLetter b }
     ensures letter { IsLetter result }
     ensures sum { index_of result ≡ (index_of a + index_of b) % 62 }
+    ensures value { result ≡ sum_of a b }
 {
     letter_at((index_of(a) + index_of(b)) % 62)
 }

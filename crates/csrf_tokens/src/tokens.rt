@@ -2,7 +2,7 @@
 
 ghost use Rattle.std.specs.Prelude.{◌≡◌, take};
 ghost use Rattle.csrf_tokens.specs.Letters.{AreLetters};
-ghost use Rattle.csrf_tokens.specs.Tokens.{Masks, unmasked};
+ghost use Rattle.csrf_tokens.specs.Tokens.{Masks, masked, unmasked};
 
 use crate::letters::{difference_of, sum_of};
 
@@ -12,6 +12,7 @@ pub fn mask(secret: &[u8; 32], mask: &[u8; 32]) -> [u8; 64]
     requires mask_letters { AreLetters mask.now }
     ensures begins { take 32 result ≡ mask.now }
     ensures masks { Masks secret.now result }
+    ensures value { result ≡ masked secret.now mask.now }
 {
     let mut token = [0; 64];
     token[..32].copy_from_slice(mask);

@@ -51,11 +51,9 @@ fn sign_and_read(rt: &impl Print, alloc: Global) -> Result<()> {
     Ok(())
 }
 
-fn make_and_verify<W: Words>(rt: &impl Print, alloc: Global, words: &mut W) -> Result<()> {
+fn make_and_verify<W: Words>(rt: &impl Print, alloc: Global, words: &W) -> Result<()> {
     let mut salt_words = [0; 22];
-    for word in &mut salt_words {
-        *word = words.next_word();
-    }
+    salt_words.copy_from_slice(&words.ahead(0)[..22]);
     let text = password_text(alloc, HASHER, "correct horse", &salt_words)?;
     println!(rt; "password text: {}", text.as_str())?;
     for word in ["correct horse", "battery staple"] {

@@ -8,6 +8,7 @@ ghost use Rattle.middleware_chain.specs.Fields.{body_fields};
 use crate::fields::query_fields;
 use crate::request_cookie::{csrf_secret, session_cookie};
 use crate::route::{Route, sends};
+use crate::secret::Secret;
 use crypto_text::Text;
 use http_edge::{Field, Request};
 use ledger_rows::RowList;
@@ -26,7 +27,7 @@ pub struct Context {
     /// The session cookie.
     pub session: Option<Text>,
     /// The secret of the CSRF cookie, where that is in form.
-    pub secret: Option<[u8; 32]>,
+    pub secret: Option<Secret>,
 }
 
 /// What a request of this route goes on with, with the fields of its body.

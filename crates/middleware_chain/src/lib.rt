@@ -12,6 +12,7 @@ mod page;
 mod refusal;
 mod request_cookie;
 mod route;
+mod secret;
 mod settings;
 mod slash_target;
 #[cfg(test)]
@@ -25,4 +26,5 @@ pub use crate::page::{
 };
 pub use crate::refusal::{Refusal, refusal_page};
 pub use crate::route::{Methods, Route, methods_of, route_of};
+pub use crate::secret::Secret;
 pub use crate::settings::Settings;

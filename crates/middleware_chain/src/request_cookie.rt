@@ -3,6 +3,7 @@
 ghost use Rattle.std.specs.Prelude.{◌≡◌, IfOk, option_copied};
 ghost use Rattle.middleware_chain.specs.RequestCookie.{csrf_cookie, request_cookie, secret_in, session_cookie};
 
+use crate::secret::Secret;
 use cookie_text::cookie_value;
 use crypto_text::Text;
 use csrf_tokens::{format_of, secret_of};
@@ -27,11 +28,11 @@ pub fn csrf_cookie(request: &Request) -> Option<&str>
 }
 
 /// The secret of the CSRF cookie, where that is in form.
-pub fn csrf_secret(request: &Request) -> Option<[u8; 32]>
+pub fn csrf_secret(request: &Request) -> Option<Secret>
     ensures { result ≡ secret_in (csrf_cookie request.now.cookie) }
 {
     match format_of(csrf_cookie(request)?) {
-        Ok(form) => Some(secret_of(&form)),
+        Ok(form) => Some(Secret::of_letters(secret_of(&form))),
         Err(_) => None,
     }
 }

@@ -26,7 +26,7 @@ pub use crate::list_words::ListWords;
 pub use crate::memory_clock::MemClock;
 pub use crate::memory_sink::MemSink;
 pub use crate::memory_source::MemSource;
-pub use crate::random_words::{Words, draw_request};
+pub use crate::random_words::{REQUEST_WORDS, Words, request_words};
 pub use crate::seed::{SeedFault, seed_from};
 pub use crate::sink::{Sink, write_whole};
 pub use crate::source::{Failed, InputFault, Source, read_up_to};

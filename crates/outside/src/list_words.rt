@@ -41,15 +41,25 @@ impl ListWords {
 }
 
 impl Words for ListWords {
+    ghost use Rattle.outside.specs.RandomWords.{listed_word};
+    ghost use Rattle.outside.specs.RandomWordLaws.{listed-below};
+
     ghost seen = { λ w. record { position = w.position; word_at = listed_word w.words w.rest } };
 
-    ghost position_is_below = { λ w. w.below };
-
-    fn next_word(&mut self) -> u32 {
-        let word = word_of(self.words.items(), self.rest, self.position);
-        self.position = (self.position + 1) % POSITIONS;
-        word
+    fn ahead(&self, offset: u64) -> [u32; 32] {
+        let mut shown = [0; 32];
+        for at in 0..32 {
+            let position = (self.position + u128::from(offset) + at as u128) % POSITIONS;
+            shown[at] = word_of(self.words.items(), self.rest, position);
+        }
+        shown
     }
+
+    fn pass(&mut self, count: u64) {
+        self.position = (self.position + u128::from(count)) % POSITIONS;
+    }
+
+    ghost words_are_below = { λ w position. listed-below w.words w.rest position w.fit w.rest_fits };
 }
 
 fn word_of(words: &[u64], rest: u32, position: u128) -> u32

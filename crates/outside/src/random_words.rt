@@ -1,31 +1,34 @@
 //! Random words, which keys, tokens and salts are made of.
 
-ghost use Rattle.std.specs.Prelude.{◌≡◌, ◌<◌, ◌^◌};
-ghost use Rattle.outside.specs.RandomWords.{RandomWords, next_word, after_words, words_from};
+ghost use Rattle.std.specs.Prelude.{◌≡◌, ◌<◌, ◌≤◌, ◌+◌, ◌^◌, ℕ, slice_range};
+ghost use Rattle.outside.specs.RandomWords.{RandomWords, after_words, words_from};
 
-/// Words at positions of a circle of 2^68, given one after another.
+/// As many words for each request, so that the words of a request don't depend on what the requests before it did with
+/// theirs.
+pub const REQUEST_WORDS: u64 = 1024;
+
+/// Words at positions of a circle of 2^68. They are shown from any position on without being made before, and passed
+/// over in one step.
 pub trait Words: Drop {
     /// The position of the next word, and the word at each position.
     ghost seen: { Self → RandomWords };
 
-    /// Gives the next word.
-    fn next_word(&mut self) -> u32
-        ensures value { result ≡ next_word (seen self.old) }
-        ensures rest { seen self.new ≡ after_words (seen self.old) 1 };
+    /// Shows 32 words, the first of them so many positions after the next word.
+    fn ahead(&self, offset: u64) -> [u32; 32]
+        ensures { result ≡ words_from (after_words (seen self.now) offset) 32 };
 
-    /// A position is one of the circle.
-    ghost position_is_below: { (words : Self) → (seen words).position < 2 ^ 68 };
+    /// Goes on by so many words.
+    fn pass(&mut self, count: u64)
+        ensures { seen self.new ≡ after_words (seen self.old) count };
+
+    /// A word is the value of a `u32`.
+    ghost words_are_below: { (words : Self) (position : ℕ) → (seen words).word_at position < 2 ^ 32 };
 }
 
-/// The words of one request: as many for each, so that the words of a request don't depend on what the
-/// requests before it did with theirs.
-pub fn draw_request<W: Words>(words: &mut W) -> [u32; 1024]
-    ensures value { result ≡ words_from (W.seen words.old) 1024 }
-    ensures rest { W.seen words.new ≡ after_words (W.seen words.old) 1024 }
+/// The 32 words of a request from this index on, of the 1,024 that are the next ones. None is passed over.
+pub fn request_words<W: Words>(words: &W, first: u64) -> [u32; 32]
+    requires { first + 32 ≤ REQUEST_WORDS }
+    ensures { result ≡ slice_range (words_from (W.seen words.now) 1024) first (first + 32) }
 {
-    let mut drawn = [0; 1024];
-    for at in 0..1024 {
-        drawn[at] = words.next_word();
-    }
-    drawn
+    words.ahead(first)
 }

@@ -134,8 +134,8 @@ impl SessionMap {
         }
     }
 
-    /// The members as a JSON value, to be written.
-    pub(crate) fn as_value(&self) -> &Value
+    /// The members as a JSON object.
+    pub fn as_value(&self) -> &Value
         ensures value { view result.now ≡ object self.now }
         ensures session { IsSession self.now }
     {

@@ -1,3 +1,4 @@
+pub mod BackendLemmas
 pub mod IdLemmas
 pub mod OpeningLemmas
 pub mod SiteFileLemmas

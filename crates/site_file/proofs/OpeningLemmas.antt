@@ -13,10 +13,10 @@ use Rattle.ledger_rows.specs.Backends.{path_of}
 use Rattle.crypto_text.specs.TextList.{AreDifferent}
 use Rattle.ledger_rows.specs.Opening.{IsLoginText, IsOpening, IsOpeningSession, keys_of_sessions}
 use Rattle.ledger_rows.specs.Tables.{user_of}
-use Rattle.ledger_rows.specs.declared.rows.Backend.TheVariants.{Model}
+use Rattle.ledger_rows.specs.declared.rows.Backend.{Backend}
 use Rattle.ledger_rows.specs.declared.rows.Opening.{Opening}
 use Rattle.ledger_rows.specs.declared.rows.UserRow.{UserRow}
-use Rattle.site_file.specs.OpeningForm.{AreEntries, IsSessionEntry, keys_of_entries, opening_from, password_of, session_row}
+use Rattle.site_file.specs.OpeningForm.{AreEntries, IsSessionEntry, backend_at, keys_of_entries, opening_from, password_of, session_row}
 use Rattle.site_file.specs.declared.entries.Entries.{Entries}
 use Rattle.site_file.specs.declared.entries.SessionEntry.{SessionEntry}
 
@@ -38,49 +38,54 @@ user_of-Some (row ∷ rows) id user found = found_first row rows id user (row.id
 key-held : (keys : List (List ℕ)) (at : ℕ) → at < length keys → Contains keys (key_at keys at)
 key-held keys at lt = (at, lt, get_or_default keys at (key_at keys at) [] lt)
 
--- a session's text is that of the login of the user who is found
-login_text-found : (opening : Opening) (entry : SessionEntry) (found : Option UserRow) → IsSessionEntry opening.keys opening.users entry → IsSome found
+-- a session's text is that of the login of the user who is found, by the backend that it names
+login_text-found : (opening : Opening) (backends : List Backend) (entry : SessionEntry) (found : Option UserRow)
+    → IsSessionEntry opening.keys backends opening.users entry → IsSome found
     → user_of opening.users entry.user ≡ found
     → (let key = key_at opening.keys entry.under in
-    IsLoginText opening (text_of Stored (auth_members entry.user (path_of Model) (auth_hash (password_of found) key)) (key ∷ []) entry.began))
-login_text-found opening entry None form some is = absurd (cc some)
-login_text-found opening entry (Some user) form some is =
+    IsLoginText opening (text_of Stored (auth_members entry.user (path_of (backend_at backends entry.backend)) (auth_hash (password_of found) key)) (key ∷ []) entry.began))
+login_text-found opening backends entry None form some is = absurd (cc some)
+login_text-found opening backends entry (Some user) form some is =
     let key = key_at opening.keys entry.under in
     let listed = user_of-Some opening.users entry.user user is in record {
       user = user;
-      backend = Model;
+      backend = backend_at backends entry.backend;
       key = key;
       moment = entry.began;
       listed = listed.0;
       held = key-held opening.keys entry.under form.under;
       began = form.began;
-      whole = ap (λ id. text_of Stored (auth_members id (path_of Model) (auth_hash user.password key)) (key ∷ []) entry.began) (sym listed.1);
+      whole = ap (λ id. text_of Stored (auth_members id (path_of (backend_at backends entry.backend)) (auth_hash user.password key)) (key ∷ []) entry.began) (sym listed.1);
     }
 
-session_row-form : (opening : Opening) (entry : SessionEntry) → IsSessionEntry opening.keys opening.users entry → IsOpeningSession opening (session_row opening.keys opening.users entry)
+session_row-form : (opening : Opening) (backends : List Backend) (entry : SessionEntry) → IsSessionEntry opening.keys backends opening.users entry
+    → IsOpeningSession opening (session_row opening.keys backends opening.users entry)
 unfolding session_row
-session_row-form opening entry form = record {
+session_row-form opening backends entry form = record {
   key = form.key;
   expire = form.expire;
-  text = login_text-found opening entry (user_of opening.users entry.user) form form.user refl;
+  text = login_text-found opening backends entry (user_of opening.users entry.user) form form.user refl;
 }
 
-session_rows-form : (opening : Opening) (entries : List SessionEntry) → All (IsSessionEntry opening.keys opening.users) entries
-    → All (IsOpeningSession opening) (map (session_row opening.keys opening.users) entries)
-session_rows-form opening entries form = All-map (IsOpeningSession opening) (session_row opening.keys opening.users) entries (λ k d lt. session_row-form opening _ (form k d lt))
+session_rows-form : (opening : Opening) (backends : List Backend) (entries : List SessionEntry) → All (IsSessionEntry opening.keys backends opening.users) entries
+    → All (IsOpeningSession opening) (map (session_row opening.keys backends opening.users) entries)
+session_rows-form opening backends entries form =
+    All-map (IsOpeningSession opening) (session_row opening.keys backends opening.users) entries (λ k d lt. session_row-form opening backends _ (form k d lt))
 
-session_rows-keys : (keys : List (List ℕ)) (users : List UserRow) (entries : List SessionEntry) → keys_of_sessions (map (session_row keys users) entries) ≡ keys_of_entries entries
+session_rows-keys : (keys : List (List ℕ)) (backends : List Backend) (users : List UserRow) (entries : List SessionEntry)
+    → keys_of_sessions (map (session_row keys backends users) entries) ≡ keys_of_entries entries
 unfolding session_row
-session_rows-keys keys users [] = refl
-session_rows-keys keys users (entry ∷ entries) = ap (λ rest. entry.key ∷ rest) (session_rows-keys keys users entries)
+session_rows-keys keys backends users [] = refl
+session_rows-keys keys backends users (entry ∷ entries) = ap (λ rest. entry.key ∷ rest) (session_rows-keys keys backends users entries)
 
-pub opening_from-form : (keys : List (List ℕ)) (entries : Entries) → IsKeys keys → AreEntries keys entries → IsOpening (opening_from keys entries)
+pub opening_from-form : (keys : List (List ℕ)) (backends : List Backend) (entries : Entries) → IsKeys keys → AreEntries keys backends entries
+    → IsOpening (opening_from keys backends entries)
 unfolding opening_from
-opening_from-form keys entries is_keys form = record {
+opening_from-form keys backends entries is_keys form = record {
   keys = is_keys;
   users = form.users;
   groups = form.groups;
   perms = form.perms;
-  session_keys = subst AreDifferent (sym (session_rows-keys keys entries.users entries.sessions)) form.sessions.session_keys;
-  sessions = session_rows-form (opening_from keys entries) entries.sessions form.sessions.rows;
+  session_keys = subst AreDifferent (sym (session_rows-keys keys backends entries.users entries.sessions)) form.sessions.session_keys;
+  sessions = session_rows-form (opening_from keys backends entries) backends entries.sessions form.sessions.rows;
 }

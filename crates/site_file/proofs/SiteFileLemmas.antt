@@ -4,10 +4,12 @@ use Rattle.serde_json.specs.Data.{Data}
 use Rattle.serde_json.specs.Find.{as_object, get}
 use Rattle.csrf_tokens.specs.declared.verdict.Trusted.{Trusted}
 use Rattle.pass_hashers.specs.declared.hasher.Algo.{Algo}
+use Rattle.ledger_rows.specs.declared.rows.Backend.{Backend}
 use Rattle.ledger_rows.specs.declared.rows.Opening.{Opening}
 use Rattle.site_file.specs.Fields.{has_only}
 use Rattle.site_file.specs.OpeningForm.{IsOpeningOf}
-use Rattle.site_file.specs.SiteFile.{AreCommonOf, AreHashersOf, AreHostsOf, AreIterationsOf, AreKeysOf, AreOriginsOf, IsJsonOf, IsSaidBy, IsSaidByFields, IsSiteOf, IsTruthOf, Judges, Site, Wrong, field_names}
+use Rattle.site_file.proofs.BackendLemmas.{paths_tell_backends}
+use Rattle.site_file.specs.SiteFile.{AreBackendsOf, AreCommonOf, AreHashersOf, AreHostsOf, AreIterationsOf, AreKeysOf, AreOriginsOf, IsJsonOf, IsSaidBy, IsSaidByFields, IsSiteOf, IsTruthOf, Judges, Site, Wrong, field_names}
 
 -- what is handed on is what was answered
 pub same_refusal : {A E : Type 0} (answer : Result A E) (fault other named : E) → answer ≡ Err other → other ≡ fault → answer ≡ Err named → fault ≡ named
@@ -30,6 +32,10 @@ one_hosts value x y p q = cc
 one_origins : (value : Option Data) (x y : List Trusted) → AreOriginsOf value x → AreOriginsOf value y → x ≡ y
 one_origins value x y p q = cc
 
+one_backends : (value : Option Data) (x y : List Backend) → AreBackendsOf value x → AreBackendsOf value y → x ≡ y
+one_backends None x y p q = p ∙ sym q
+one_backends (Some value) x y p q = paths_tell_backends x y (cc (p.read, q.read))
+
 one_hashers : (value : Option Data) (x y : List Algo) → AreHashersOf value x → AreHashersOf value y → x ≡ y
 one_hashers None x y p q = p ∙ sym q
 one_hashers (Some value) x y p q = let names : p.names ≡ q.names = cc (p.read, q.read) in cc (names, p.known, q.known)
@@ -45,8 +51,8 @@ one_truth (Some value) x y p q = cc
 one_common : (value : Option Data) (x y : List (List ℕ)) → AreCommonOf value x → AreCommonOf value y → x ≡ y
 one_common value x y p q = cc (p.read, q.read)
 
-one_opening : (keys : List (List ℕ)) (value : Option Data) (x y : Opening) → IsOpeningOf keys value x → IsOpeningOf keys value y → x ≡ y
-one_opening keys value x y p q = let entries : p.entries ≡ q.entries = cc (p.read, q.read) in cc (entries, p.rows, q.rows)
+one_opening : (keys : List (List ℕ)) (backends : List Backend) (value : Option Data) (x y : Opening) → IsOpeningOf keys backends value x → IsOpeningOf keys backends value y → x ≡ y
+one_opening keys backends value x y p q = let entries : p.entries ≡ q.entries = cc (p.read, q.read) in cc (entries, p.rows, q.rows)
 
 said_by_fields-one : (d : Data) (a b : Site) → IsSaidByFields d a → IsSaidByFields d b → a ≡ b
 unfolding IsSaidByFields
@@ -55,12 +61,13 @@ said_by_fields-one d =
     Judges-one _ (AreKeysOf (named (codes "keys"))) _ (one_keys (named (codes "keys"))) (λ keys.
     Judges-one _ (AreHostsOf (named (codes "allowed_hosts"))) _ (one_hosts (named (codes "allowed_hosts"))) (λ hosts.
     Judges-one _ (AreOriginsOf (named (codes "trusted_origins"))) _ (one_origins (named (codes "trusted_origins"))) (λ trusted.
+    Judges-one _ (AreBackendsOf (named (codes "backends"))) _ (one_backends (named (codes "backends"))) (λ backends.
     Judges-one _ (AreHashersOf (named (codes "hashers"))) _ (one_hashers (named (codes "hashers"))) (λ installed.
     Judges-one _ (AreIterationsOf (named (codes "iterations"))) _ (one_iterations (named (codes "iterations"))) (λ iterations.
     Judges-one _ (IsTruthOf (named (codes "proxy_secure"))) _ (one_truth (named (codes "proxy_secure"))) (λ proxy_secure.
     Judges-one _ (IsTruthOf (named (codes "cookie_secure"))) _ (one_truth (named (codes "cookie_secure"))) (λ cookie_secure.
     Judges-one _ (AreCommonOf (named (codes "common"))) _ (one_common (named (codes "common"))) (λ common.
-    Judges-one _ (IsOpeningOf keys (named (codes "opening"))) _ (one_opening keys (named (codes "opening"))) (λ opening a b p q. p ∙ sym q)))))))))
+    Judges-one _ (IsOpeningOf keys backends (named (codes "opening"))) _ (one_opening keys backends (named (codes "opening"))) (λ opening a b p q. p ∙ sym q))))))))))
 
 said_by-one_at : (d : Data) (known : Bool) (a b : Site) → MatchBool known (IsSaidByFields d a) (a ≡ Wrong 0) → MatchBool known (IsSaidByFields d b) (b ≡ Wrong 0) → a ≡ b
 said_by-one_at d true a b p q = said_by_fields-one d a b p q

@@ -1,5 +1,5 @@
 -- What a settings file says: one JSON object (RFC 8259). The fields, their numbers and the order of refusals are this project's own.
-use Rattle.std.specs.Prelude.{◌≡◌, ◌<◌, ◌≤◌, ◌⊎◌, ℕ, Bool, List, [], ◌∷◌, false, not, length, bytes_eq, if◌then◌else◌, Option, Some, None, option_and_then, codes, IsUtf8, MatchBool}
+use Rattle.std.specs.Prelude.{◌≡◌, ◌<◌, ◌≤◌, ◌⊎◌, ℕ, Bool, List, [], ◌∷◌, false, not, length, map, bytes_eq, if◌then◌else◌, Option, Some, None, option_and_then, codes, IsUtf8, MatchBool}
 use Rattle.std.specs.Char.{is_ascii_uppercase}
 use Rattle.std.specs.List.{All, AllPass}
 use Rattle.serde_json.specs.Data.{Data}
@@ -13,6 +13,8 @@ use Rattle.pass_hashers.specs.declared.hasher.Hasher.{Hasher}
 use Rattle.pass_hashers.specs.declared.hasher.Hasher.TheVariants as hashers
 use Rattle.signing_core.specs.Keys.{IsKeys}
 use Rattle.crypto_text.specs.TextList.{AreDifferent}
+use Rattle.ledger_rows.specs.Backends.{path_of}
+use Rattle.ledger_rows.specs.declared.rows.Backend.{Backend}
 use Rattle.ledger_rows.specs.declared.rows.Backend.TheVariants.{Model}
 use Rattle.ledger_rows.specs.declared.rows.Cfg.{Cfg}
 use Rattle.ledger_rows.specs.declared.rows.Engine.TheVariants.{Db}
@@ -21,12 +23,12 @@ use Rattle.site_file.specs.OpeningForm.{IsOpeningOf}
 use Rattle.site_file.specs.TrustedOrigins.{trusted_value}
 use Rattle.site_file.specs.declared.settings.SettingsAll.{SettingsAll}
 
--- the names of the fields: 1 is keys, 2 allowed_hosts, 3 trusted_origins, 5 hashers, 6 iterations, 9 proxy_secure,
--- 10 cookie_secure, 11 common, 12 opening
+-- the names of the fields: 1 is keys, 2 allowed_hosts, 3 trusted_origins, 4 backends, 5 hashers, 6 iterations,
+-- 9 proxy_secure, 10 cookie_secure, 11 common, 12 opening
 unfoldable pub field_names : List (List ℕ)
 field_names =
-    codes "keys" ∷ codes "allowed_hosts" ∷ codes "trusted_origins" ∷ codes "hashers" ∷ codes "iterations" ∷ codes "proxy_secure"
-    ∷ codes "cookie_secure" ∷ codes "common" ∷ codes "opening" ∷ []
+    codes "keys" ∷ codes "allowed_hosts" ∷ codes "trusted_origins" ∷ codes "backends" ∷ codes "hashers" ∷ codes "iterations"
+    ∷ codes "proxy_secure" ∷ codes "cookie_secure" ∷ codes "common" ∷ codes "opening" ∷ []
 
 -- 1: the texts of the keys, which make a key list
 pub record AreKeysOf (value : Option Data) (keys : List (List ℕ)) : Type 0 where
@@ -40,6 +42,20 @@ AreHostsOf value hosts = list_or_empty as_str value ≡ Some hosts
 -- 3: the origins that are trusted; none where the field is absent
 abbrev pub AreOriginsOf : Option Data → List Trusted → Type 0
 AreOriginsOf value trusted = list_or_empty trusted_value value ≡ Some trusted
+
+abbrev pub paths_of : List Backend → List (List ℕ)
+paths_of backends = map path_of backends
+
+-- the paths of one backend or more, each of another one; there are two backends
+pub record ArePathsOf (value : Data) (backends : List Backend) : Type 0 where
+  pub read : list_in as_str value ≡ Some (paths_of backends)
+  pub some : 1 ≤ length backends
+  pub different : AreDifferent (paths_of backends)
+
+-- 4: the backends, in the order in which they are asked; Django's `ModelBackend` alone where the field is absent
+abbrev pub AreBackendsOf : Option Data → List Backend → Type 0
+AreBackendsOf None backends = backends ≡ Model ∷ []
+AreBackendsOf (Some value) backends = ArePathsOf value backends
 
 -- the algorithm of a name
 unfoldable pub algo_named : List ℕ → Option Algo
@@ -95,8 +111,8 @@ preferred_of [] iterations = hashers.Md5
 preferred_of (algo ∷ rest) iterations = hasher_of algo iterations
 
 -- the configuration of these fields
-unfoldable pub cfg_of : List Algo → ℕ → Cfg
-cfg_of installed iterations = record { engine = Db; backends = Model ∷ []; installed = installed; preferred = preferred_of installed iterations }
+unfoldable pub cfg_of : List Backend → List Algo → ℕ → Cfg
+cfg_of backends installed iterations = record { engine = Db; backends = backends; installed = installed; preferred = preferred_of installed iterations }
 
 -- a field is wrong by its number: it says nothing
 abbrev pub IsWrongField : {A : Type 0} → ℕ → ℕ → (A → Type 0) → Type 0
@@ -117,15 +133,16 @@ IsSaidByFields d =
     Judges 1 (AreKeysOf (get (codes "keys") d)) (λ keys.
     Judges 2 (AreHostsOf (get (codes "allowed_hosts") d)) (λ hosts.
     Judges 3 (AreOriginsOf (get (codes "trusted_origins") d)) (λ trusted.
+    Judges 4 (AreBackendsOf (get (codes "backends") d)) (λ backends.
     Judges 5 (AreHashersOf (get (codes "hashers") d)) (λ installed.
     Judges 6 (AreIterationsOf (get (codes "iterations") d)) (λ iterations.
     Judges 9 (IsTruthOf (get (codes "proxy_secure") d)) (λ proxy_secure.
     Judges 10 (IsTruthOf (get (codes "cookie_secure") d)) (λ cookie_secure.
     Judges 11 (AreCommonOf (get (codes "common") d)) (λ common.
-    Judges 12 (IsOpeningOf keys (get (codes "opening") d)) (λ opening site.
+    Judges 12 (IsOpeningOf keys backends (get (codes "opening") d)) (λ opening site.
     site ≡ Says (record {
       settings = record {
-        cfg = cfg_of installed iterations;
+        cfg = cfg_of backends installed iterations;
         allowed = hosts;
         trusted = trusted;
         proxy_secure = proxy_secure;
@@ -133,7 +150,7 @@ IsSaidByFields d =
         common = common;
       };
       opening = opening;
-    }))))))))))
+    })))))))))))
 
 -- a value that is no object has a wrong field 0, as one with an unknown name
 abbrev pub IsSaidBy : Data → Site → Type 0

@@ -107,27 +107,22 @@ fn iterations_from(number: u64) -> Result<u32, FieldFault>
     }
 }
 
-/// The configuration of these algorithms.
+/// The configuration of these backends and algorithms.
 #[tactic(auto, unfolding(crate::specs::SiteFile::cfg_of))]
-pub(crate) fn cfg_of(
-    alloc: Global,
-    installed: Vec<Algo>,
-    iterations: u32,
-) -> Result<Cfg, AllocError>
+pub(crate) fn cfg_of(backends: Vec<Backend>, installed: Vec<Algo>, iterations: u32) -> Cfg
+    requires backends { 1 ≤ length backends.items }
     requires some { 1 ≤ length installed.items }
     requires allowed { AreIterations iterations }
-    ensures value { IfOk result (λ cfg. cfg ≡ cfg_of installed.items iterations) }
-    ensures form { IfOk result IsCfg }
+    ensures value { result ≡ cfg_of backends.items installed.items iterations }
+    ensures form { IsCfg result }
 {
-    let mut backends = Vec::new(alloc);
-    backends.push(Backend::Model)?;
     let preferred = hasher_of(installed[0], iterations);
-    Ok(Cfg {
+    Cfg {
         engine: Engine::Db,
         backends: RowList::from_vec(backends),
         installed: RowList::from_vec(installed),
         preferred,
-    })
+    }
 }
 
 fn hasher_of(algo: Algo, iterations: u32) -> Hasher

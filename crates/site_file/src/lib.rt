@@ -2,13 +2,16 @@
 //! first field that isn't well formed; `SiteFile.IsSiteOf` says which file says what.
 #![tactic(auto)]
 
+mod backends;
 mod entries;
 mod fields;
 mod hashers;
 pub mod laws;
+mod numbered_fields;
 mod opening;
 mod opening_form;
 mod row_ids;
+mod session_form;
 mod settings;
 #[cfg(test)]
 mod tests;
@@ -16,4 +19,5 @@ mod texts;
 mod trusted_origins;
 
 pub use crate::entries::{Entries, SessionEntry};
-pub use crate::settings::{MOST_BYTES, SettingsAll, SettingsFault, read_settings};
+pub use crate::numbered_fields::SettingsFault;
+pub use crate::settings::{MOST_BYTES, SettingsAll, read_settings};

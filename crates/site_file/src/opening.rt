@@ -12,7 +12,8 @@ ghost use Rattle.site_file.specs.OpeningForm.{AreEntries, IsOpeningOf, IsSession
 
 use crate::entries::{Entries, SessionEntry, entries_of};
 use crate::fields::FieldFault;
-use crate::opening_form::{are_entries, user_of};
+use crate::opening_form::are_entries;
+use crate::session_form::user_of;
 use crate::texts::list_of_bytes;
 use crypto_text::Bytes;
 use ledger_rows::{Backend, Opening, RowList, SessionRow, UserRow, session_auth_text};
@@ -21,33 +22,40 @@ use session_codec::{SessionKind, SessionMap, encode};
 use signing_core::Keys;
 use std::alloc::{AllocError, Global};
 
-/// What the field, whose value may be absent, says under these keys.
+/// What the field, whose value may be absent, says under these keys and by these backends.
 pub(crate) fn opening_of(
     alloc: Global,
     keys: Keys,
+    backends: &[Backend],
     value: Option<&Value>,
 ) -> Result<Opening, FieldFault>
-    ensures ok { IfOk result (IsOpeningOf keys (option_map (λ v. view v.now) value.entry)) }
+    ensures ok { IfOk result (IsOpeningOf keys backends.now (option_map (λ v. view v.now) value.entry)) }
     ensures opening { IfOk result (λ opening. IsOpening opening) }
-    ensures form { IsErrOf result FieldFault.Form → (opening : Opening) → ¬ IsOpeningOf keys (option_map (λ v. view v.now) value.entry) opening }
+    ensures form { IsErrOf result FieldFault.Form → (opening : Opening) → ¬ IsOpeningOf keys backends.now (option_map (λ v. view v.now) value.entry) opening }
 {
     let entries = entries_of(alloc, value)?;
-    if are_entries(alloc, &keys, &entries)? {
-        Ok(opening_from(alloc, keys, entries)?)
+    if are_entries(alloc, &keys, backends, &entries)? {
+        Ok(opening_from(alloc, keys, backends, entries)?)
     } else {
         Err(FieldFault::Form)
     }
 }
 
 #[tactic(auto, unfolding(crate::specs::OpeningForm::opening_from))]
-fn opening_from(alloc: Global, keys: Keys, entries: Entries) -> Result<Opening, AllocError>
-    requires { AreEntries keys entries }
-    ensures value { IfOk result (λ opening. opening ≡ opening_from keys entries) }
+fn opening_from(
+    alloc: Global,
+    keys: Keys,
+    backends: &[Backend],
+    entries: Entries,
+) -> Result<Opening, AllocError>
+    requires { AreEntries keys backends.now entries }
+    ensures value { IfOk result (λ opening. opening ≡ opening_from keys backends.now entries) }
     ensures form { IfOk result (λ opening. IsOpening opening) }
 {
     let sessions = session_rows(
         alloc,
         &keys,
+        backends,
         entries.users.items(),
         entries.sessions.items(),
     )?;
@@ -63,16 +71,17 @@ fn opening_from(alloc: Global, keys: Keys, entries: Entries) -> Result<Opening, 
 fn session_rows(
     alloc: Global,
     keys: &Keys,
+    backends: &[Backend],
     users: &[UserRow],
     sessions: &[SessionEntry],
 ) -> Result<Vec<SessionRow>, AllocError>
     requires ids { IsStrictlyIncreasing (ids_of_users users.now) }
-    requires form { All (IsSessionEntry keys.now users.now) sessions.now }
-    ensures { IfOk result (λ rows. rows.items ≡ map (session_row keys.now users.now) sessions.now) }
+    requires form { All (IsSessionEntry keys.now backends.now users.now) sessions.now }
+    ensures { IfOk result (λ rows. rows.items ≡ map (session_row keys.now backends.now users.now) sessions.now) }
 {
     let mut rows = Vec::with_capacity(alloc, sessions.len())?;
     for entry in sessions {
-        rows.push(session_row(alloc, keys, users, entry)?)?;
+        rows.push(session_row(alloc, keys, backends, users, entry)?)?;
     }
     Ok(rows)
 }
@@ -81,16 +90,18 @@ fn session_rows(
 fn session_row(
     alloc: Global,
     keys: &Keys,
+    backends: &[Backend],
     users: &[UserRow],
     entry: &SessionEntry,
 ) -> Result<SessionRow, AllocError>
     requires ids { IsStrictlyIncreasing (ids_of_users users.now) }
+    requires backend { entry.now.backend < length backends.now }
     requires under { entry.now.under < length keys.now }
-    ensures { IfOk result (λ row. row ≡ session_row keys.now users.now entry.now) }
+    ensures { IfOk result (λ row. row ≡ session_row keys.now backends.now users.now entry.now) }
 {
     let under = key_alone(alloc, keys, entry.under as usize)?;
     let hash = session_auth_text(alloc, password_of(users, entry.user), under.first())?;
-    let path = Backend::Model.path();
+    let path = backends[entry.backend as usize].path();
     let map = SessionMap::of_auth(alloc, entry.user, path, hash.as_str())?;
     Ok(SessionRow {
         key: entry.key.copy(alloc)?,

@@ -1,26 +1,31 @@
 //! Whether the rows of an opening are well formed.
 
-ghost use Rattle.std.specs.Prelude.{◌≡◌, ◌↔◌, ◌<◌, IfOk, IsTrue, length};
+ghost use Rattle.std.specs.Prelude.{◌≡◌, ◌↔◌, IfOk, IsTrue};
 ghost use Rattle.std.specs.List.{All};
 ghost use Rattle.std.specs.List.Sorted.{IsStrictlyIncreasing};
-ghost use Rattle.std.specs.Option.{option_copied};
 ghost use Rattle.permissions.specs.PermissionSet.{name_of};
 ghost use Rattle.ledger_rows.specs.Opening.{AreOpeningGroups, AreOpeningPerms, AreOpeningUsers, AreRowIds, IsOpeningGroup, IsOpeningPerm, IsOpeningUser, ids_of_groups, ids_of_perms, ids_of_users, names_of_groups, names_of_perms, names_of_users};
-ghost use Rattle.ledger_rows.specs.Tables.{user_of};
-ghost use Rattle.site_file.specs.OpeningForm.{AreEntries, AreSessionEntries, HaveRowIds, IsSessionEntry, keys_of_entries};
+ghost use Rattle.site_file.specs.OpeningForm.{AreEntries, HaveRowIds};
 
-use crate::entries::{Entries, SessionEntry};
+use crate::entries::Entries;
 use crate::row_ids::{are_ids_among, are_row_ids};
-use crypto_text::{Text, are_different, is_moment};
-use ledger_rows::{UserRow, is_email, is_permission_word, is_session_key, is_user_name};
+use crate::session_form::are_sessions;
+use crypto_text::{Text, are_different};
+use ledger_rows::{Backend, UserRow, is_email, is_permission_word, is_user_name};
 use pass_hashers::is_password_text;
 use permissions::{GroupRow, PermRow};
 use signing_core::Keys;
 use std::alloc::{AllocError, Global};
 
-/// Whether all rows are well formed under these keys. The ids of a table come first: where they rise, rows are found by halves.
-pub(crate) fn are_entries(alloc: Global, keys: &Keys, entries: &Entries) -> Result<bool, AllocError>
-    ensures { IfOk result (λ answer. IsTrue answer ↔ AreEntries keys.now entries.now) }
+/// Whether all rows are well formed under these keys and by these backends. The ids of a table come first: where they
+/// rise, rows are found by halves.
+pub(crate) fn are_entries(
+    alloc: Global,
+    keys: &Keys,
+    backends: &[Backend],
+    entries: &Entries,
+) -> Result<bool, AllocError>
+    ensures { IfOk result (λ answer. IsTrue answer ↔ AreEntries keys.now backends.now entries.now) }
 {
     let groups = group_ids(alloc, entries.groups.items())?;
     let perms = perm_ids(alloc, entries.perms.items())?;
@@ -29,7 +34,14 @@ pub(crate) fn are_entries(alloc: Global, keys: &Keys, entries: &Entries) -> Resu
         && are_row_ids(perms.as_slice())
         && are_row_ids(users.as_slice())
     {
-        are_rows(alloc, keys, groups.as_slice(), perms.as_slice(), entries)
+        are_rows(
+            alloc,
+            keys,
+            backends,
+            groups.as_slice(),
+            perms.as_slice(),
+            entries,
+        )
     } else {
         Ok(false)
     }
@@ -38,6 +50,7 @@ pub(crate) fn are_entries(alloc: Global, keys: &Keys, entries: &Entries) -> Resu
 fn are_rows(
     alloc: Global,
     keys: &Keys,
+    backends: &[Backend],
     groups: &[u64],
     perms: &[u64],
     entries: &Entries,
@@ -45,13 +58,13 @@ fn are_rows(
     requires ids { HaveRowIds entries.now }
     requires groups { groups.now ≡ ids_of_groups entries.now.groups }
     requires perms { perms.now ≡ ids_of_perms entries.now.perms }
-    ensures { IfOk result (λ answer. IsTrue answer ↔ AreEntries keys.now entries.now) }
+    ensures { IfOk result (λ answer. IsTrue answer ↔ AreEntries keys.now backends.now entries.now) }
 {
     let users = entries.users.items();
     let of_users = are_users(alloc, groups, perms, users)?;
     let of_groups = are_groups(alloc, perms, entries.groups.items())?;
     let of_perms = are_perms(alloc, entries.perms.items())?;
-    let of_sessions = are_sessions(alloc, keys, users, entries.sessions.items())?;
+    let of_sessions = are_sessions(alloc, keys, backends, users, entries.sessions.items())?;
     Ok(of_users && of_groups && of_perms && of_sessions)
 }
 
@@ -135,49 +148,6 @@ fn is_perm(perm: &PermRow) -> bool
     is_permission_word(perm.app.as_str()) && is_permission_word(perm.codename.as_str())
 }
 
-fn are_sessions(
-    alloc: Global,
-    keys: &Keys,
-    users: &[UserRow],
-    sessions: &[SessionEntry],
-) -> Result<bool, AllocError>
-    requires { IsStrictlyIncreasing (ids_of_users users.now) }
-    ensures { IfOk result (λ answer. IsTrue answer ↔ AreSessionEntries keys.now users.now sessions.now) }
-{
-    let different = are_different(session_keys(alloc, sessions)?);
-    Ok(different && are_session_rows(keys, users, sessions))
-}
-
-fn are_session_rows(keys: &Keys, users: &[UserRow], sessions: &[SessionEntry]) -> bool
-    requires { IsStrictlyIncreasing (ids_of_users users.now) }
-    ensures { IsTrue result ↔ All (IsSessionEntry keys.now users.now) sessions.now }
-{
-    sessions.iter().all(|entry| is_session(keys, users, entry))
-}
-
-fn is_session(keys: &Keys, users: &[UserRow], entry: &SessionEntry) -> bool
-    requires { IsStrictlyIncreasing (ids_of_users users.now) }
-    ensures { IsTrue result ↔ IsSessionEntry keys.now users.now entry.now }
-{
-    is_session_key(entry.key.as_str())
-        && user_of(users, entry.user).is_some()
-        && entry.backend == 0
-        && entry.under < keys.len() as u64
-        && is_moment(entry.began)
-        && is_moment(entry.expire)
-}
-
-/// The user of an id, found by halves.
-pub(crate) fn user_of(users: &[UserRow], id: u64) -> Option<&UserRow>
-    requires { IsStrictlyIncreasing (ids_of_users users.now) }
-    ensures { option_copied result ≡ user_of users.now id }
-{
-    match users.binary_search_by_key(&id, |user| user.id) {
-        Ok(index) => Some(&users[index]),
-        Err(_) => None,
-    }
-}
-
 fn user_ids(alloc: Global, users: &[UserRow]) -> Result<Vec<u64>, AllocError>
     ensures { IfOk result (λ ids. ids.items ≡ ids_of_users users.now) }
 {
@@ -234,14 +204,4 @@ fn perm_name(alloc: Global, perm: &PermRow) -> Result<Text, AllocError>
     name.push_str(".")?;
     name.push_str(perm.codename.as_str())?;
     Ok(Text::from_string(name))
-}
-
-fn session_keys(alloc: Global, sessions: &[SessionEntry]) -> Result<Vec<Text>, AllocError>
-    ensures { IfOk result (λ keys. keys.items ≡ keys_of_entries sessions.now) }
-{
-    let mut keys = Vec::with_capacity(alloc, sessions.len())?;
-    for entry in sessions {
-        keys.push(entry.key.copy(alloc)?)?;
-    }
-    Ok(keys)
 }

@@ -1,3 +1,5 @@
+mod backends;
+
 use super::*;
 use pass_hashers::Hasher;
 use std::alloc::Global;

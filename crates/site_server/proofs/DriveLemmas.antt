@@ -77,7 +77,7 @@ pub goes_on : {S : Type 0} (passed : List Turn → S → S → Type 0) (may_ente
     → IsUnderway passed may_enter server script now number step first mid
     → IsAdvance now after (tag_of server number step) (λ turns. passed turns mid new) (Replied reply)
     → IsUnderway passed may_enter server script (after reply) number (step + 1) first new
-goes_on passed may_enter adds keeps server script now after number step first mid new reply u (op, rest, asks, goes, did) =
+goes_on passed may_enter adds keeps server script now after number step first mid new reply u (op, rest, asks, goes, kind, did) =
     let few_asked : AtMost (21 - step) (Ask op rest) = subst (λ s. AtMost (21 - step) s) asks u.few in
     let some : 1 ≤ 21 - step = one_at_least (21 - step) op rest few_asked in
     let event : Event = record { op = op; reply = reply } in
@@ -92,7 +92,7 @@ goes_on passed may_enter adds keeps server script now after number step first mi
           (adds (turns_from server number 0 u.events) (Did (tag_of server number step) op reply ∷ []) first mid new u.so_far did);
       own = λ k. keeps (Did (tag_of server number step) op reply ∷ []) mid new (tag_of server number k) did (u.own k);
       few = subst (λ s. AtMost (21 - (step + 1)) s) (sym goes) (one_fewer (21 - step) (21 - (step + 1)) (omega arith) op rest reply few_asked);
-      proper = subst (λ s. IsProper s) (sym goes) ((subst (λ s. IsProper s) asks u.proper).1 reply);
+      proper = subst (λ s. IsProper s) (sym goes) ((subst (λ s. IsProper s) asks u.proper).1 reply kind);
       within = omega arith;
     }
 

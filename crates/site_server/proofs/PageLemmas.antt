@@ -1,5 +1,5 @@
 -- The page of `/whoami/` names the user whom the load at its entry's index admits.
-use Rattle.std.proofs.Common.{◌≡◌, ℕ, zero, suc, ◌+◌, Bool, true, false, if◌then◌else◌, is_some, List, [], ◌∷◌, ◌++◌, length, Option, Some, None, refl, sym, ap, ◌∙◌, subst, arith, append_assoc, add-zero, option_map, inl, inr, nat_lt}
+use Rattle.std.proofs.Common.{◌≡◌, ℕ, zero, suc, ◌+◌, Bool, true, false, if◌then◌else◌, ◌&&◌, not, is_some, Result, Ok, Err, List, [], ◌∷◌, ◌++◌, length, Option, Some, None, refl, sym, ap, ◌∙◌, subst, arith, append_assoc, add-zero, option_map, inl, inr, nat_lt}
 use Rattle.std.specs.Prelude.{codes}
 use Rattle.std.proofs.lemmas.List.{append_cancel_left, append_cancel_right}
 use Rattle.ledger_rows.specs.Admission.{IsAdmitted, found_user, verdict_of}
@@ -20,16 +20,18 @@ use Rattle.ledger_rows.specs.declared.verdict.Verdict.TheVariants.{NoCookie, Not
 use Rattle.http_edge.specs.declared.response.Response.{Response}
 use Rattle.keepers.specs.Keeper.{OnHolding}
 use Rattle.middleware_chain.specs.Page.{line}
-use Rattle.middleware_chain.specs.Begun.{begun_of}
-use Rattle.middleware_chain.specs.declared.begun.Begun.{Begun}
-use Rattle.middleware_chain.specs.declared.begun.Begun.TheVariants.{Answer, Go}
+use Rattle.middleware_chain.specs.Route.{route_of}
+use Rattle.middleware_chain.specs.declared.route.Route.TheVariants.{Whoami}
+use Rattle.http_edge.specs.declared.request.Request.{Request}
+use Rattle.ledger_rows.specs.declared.reply.Reply.TheVariants.{Loaded}
+use Rattle.ledger_rows.specs.declared.reply.UserRead.{UserRead}
 use Rattle.middleware_chain.specs.declared.settings.Settings.{Settings}
-use Rattle.account_views.specs.Handler.{after_load, facts_of, has_view, no_view, script_of}
+use Rattle.account_views.proofs.ShownLemmas.{body_of}
+use Rattle.account_views.specs.Handler.{request_basis}
 use Rattle.account_views.specs.Script.{Steps, Return, Ask}
-use Rattle.account_views.specs.Visit.{user_of}
-use Rattle.account_views.specs.Walk.{Leads}
+use Rattle.account_views.specs.Visit.{visit_of}
+use Rattle.account_views.specs.Walk.{Event, Leads}
 use Rattle.account_views.specs.Whoami.{user_line}
-use Rattle.account_views.specs.declared.facts.Facts.{Facts}
 use Rattle.site_server.specs.Laws.{PageNamesTheAdmitted, exchange_at}
 use Rattle.site_server.specs.OneWorker.{AreTurnsOfAll}
 use Rattle.site_server.specs.Outcome.{Done, IsOutcome, MayEnd, Server, tag_of, turns_from}
@@ -38,40 +40,23 @@ use Rattle.site_server.specs.Transcript.{Exchange, IsSaid, IsTranscript, IsWhole
 use Rattle.site_server.specs.Turns.{Did, Failed, HadNoRoom, StandFrom, Turn}
 use Rattle.site_server.specs.declared.connection.End.{End}
 
--- ---- the page of a walk
-
-body_in : Steps Response → List ℕ
-body_in (Return response) = response.body
-body_in (Ask op rest) = []
-
-body_of : (facts : Facts) (begun : Begun) (cookie : Option (List ℕ)) (now : ℕ) (reply : Reply) (response : Response)
-    → Leads (script_of facts begun) (record { op = Load cookie now; reply = reply } ∷ []) (Return response) → response.body ≡ user_line (user_of reply)
-unfolding body_in
-body_of facts (Answer page) cookie now reply response leads = absurd leads
-body_of facts (Go context) cookie now reply response leads = on (has_view context.route) leads
-  where
-    on : (viewed : Bool)
-        → Leads (if viewed then Ask (Load context.session facts.moment) (after_load facts (is_some context.session)) else no_view facts) (record { op = Load cookie now; reply = reply } ∷ []) (Return response)
-        → response.body ≡ user_line (user_of reply)
-    on true (asked, done) = ap (λ (s : Steps Response). body_in s) done
-    on false leads = absurd leads
-
 -- ---- the turn of a request's first step
 
-turn_at : (server : Server) (number : ℕ) (exchanges : List Exchange) (turns : List Turn) (index : ℕ) (e : Exchange) (op : Op) (reply : Reply)
-    → AreTurnsOfAll server number exchanges turns → exchange_at exchanges index ≡ Some e → e.outcome.events ≡ record { op = op; reply = reply } ∷ []
+turn_at : (server : Server) (number : ℕ) (exchanges : List Exchange) (turns : List Turn) (index : ℕ) (e : Exchange) (op : Op) (reply : Reply) (events : List Event)
+    → AreTurnsOfAll server number exchanges turns → exchange_at exchanges index ≡ Some e → e.outcome.events ≡ record { op = op; reply = reply } ∷ events
     → (front : List Turn) × (back : List Turn) × (turns ≡ front ++ (Did (tag_of server (number + index) 0) op reply ∷ back))
-turn_at server number [] turns index e op reply none is events = let no : None ≡ Some e = is in absurd (cc)
-turn_at server number (other ∷ exchanges) turns zero e op reply (here, later, all, of, rest) is events =
+turn_at server number [] turns index e op reply events none is asked = let no : None ≡ Some e = is in absurd (cc)
+turn_at server number (other ∷ exchanges) turns zero e op reply events (here, later, all, of, rest) is asked =
     let same : other ≡ e = cc in
-    let asked : other.outcome.events ≡ record { op = op; reply = reply } ∷ [] = ap (λ (x : Exchange). x.outcome.events) same ∙ events in
-    let mine : here ≡ Did (tag_of server number 0) op reply ∷ of.last = of.all ∙ ap (λ es. turns_from server number 0 es ++ of.last) asked in (
+    let asks : other.outcome.events ≡ record { op = op; reply = reply } ∷ events = ap (λ (x : Exchange). x.outcome.events) same ∙ asked in
+    let back : List Turn = turns_from server number 1 events ++ of.last in
+    let mine : here ≡ Did (tag_of server number 0) op reply ∷ back = of.all ∙ ap (λ es. turns_from server number 0 es ++ of.last) asks in (
       [],
-      of.last ++ later,
-      all ∙ ap (λ ts. ts ++ later) mine ∙ ap (λ n. Did (tag_of server n 0) op reply ∷ (of.last ++ later)) (sym (add-zero number)),
+      back ++ later,
+      all ∙ ap (λ ts. ts ++ later) mine ∙ ap (λ n. Did (tag_of server n 0) op reply ∷ (back ++ later)) (sym (add-zero number)),
     )
-turn_at server number (other ∷ exchanges) turns (suc index) e op reply (here, later, all, of, rest) is events =
-    let found = turn_at server (number + 1) exchanges later index e op reply rest is events in
+turn_at server number (other ∷ exchanges) turns (suc index) e op reply events (here, later, all, of, rest) is asked =
+    let found = turn_at server (number + 1) exchanges later index e op reply events rest is asked in
     let count : number + 1 + index ≡ number + suc index = omega arith in (
       here ++ found.0,
       found.1,
@@ -126,8 +111,27 @@ names cfg state cookie now name (Admitted key) None exactly v f is = absurd (not
 names cfg state cookie now name (Admitted key) (Some user) exactly v f is =
     (user, key, (exactly cfg state cookie now user key).0 (v, f), same_name user.name name is)
 
+-- a visitor has a name where the load admits
+visitor : (came : Bool) (verdict : Verdict) (keys : List (List ℕ)) (found : Option UserRow) (key : Option (List ℕ)) (payload : List ℕ)
+    → (visit_of came (Loaded verdict key payload (admitted_user verdict keys found))).user ≡ admitted_user verdict keys found
+visitor came NoCookie keys found key payload = refl
+visitor came NotStored keys found key payload = refl
+visitor came Corrupt keys found key payload = refl
+visitor came NoAuth keys found key payload = refl
+visitor came BadBackend keys found key payload = refl
+visitor came NoUser keys found key payload = refl
+visitor came Inactive keys found key payload = refl
+visitor came BadHash keys found key payload = refl
+visitor came (Admitted index) keys None key payload = refl
+visitor came (Admitted index) keys (Some row) key payload = refl
+
+-- the user whom a load admits, by its verdict
+admitted_in : Cfg → State → Option (List ℕ) → ℕ → Option UserRead
+admitted_in cfg state cookie now = admitted_user (verdict_of cfg state cookie now) state.tables.keys (found_user cfg.engine state cookie now)
+
 named : (cfg : Cfg) (state : State) (cookie : Option (List ℕ)) (now : ℕ) (user : UserRow) (key : ℕ) → LoadAdmitsExactly → IsAdmitted cfg state cookie now user key
-    → user_line (user_of (loaded cfg state cookie now)) ≡ codes "user=" ++ line user.name
+    → user_line (admitted_in cfg state cookie now) ≡ codes "user=" ++ line user.name
+unfolding admitted_in
 named cfg state cookie now user key exactly admitted =
     let is = (exactly cfg state cookie now user key).1 admitted in
     ap (λ (v : Verdict). user_line (admitted_user v state.tables.keys (found_user cfg.engine state cookie now))) is.0
@@ -145,32 +149,38 @@ after_said answer others written end index e GoesOn Goal goes (inl whole) at = o
 
 -- the body of an exchange's response, by its walk
 page_body : (settings : Settings) (exchanges : List Exchange) (most : ℕ) (bytes written : List ℕ) (end : End) (index : ℕ) (e : Exchange) (response : Response) (cookie : Option (List ℕ)) (now : ℕ) (reply : Reply)
-    → IsTranscript settings most bytes exchanges written end → exchange_at exchanges index ≡ Some e → e.outcome.ending ≡ Done response
-    → e.outcome.events ≡ record { op = Load cookie now; reply = reply } ∷ [] → response.body ≡ user_line (user_of reply)
-page_body settings [] most bytes written end index e response cookie now reply tr at done events = let no : None ≡ Some e = at in absurd (cc)
-page_body settings (other ∷ others) zero bytes written end index e response cookie now reply (none, is, ended) at done events = absurd (cc)
-page_body settings (other ∷ others) (suc left) bytes written end zero e response cookie now reply (rest, framing, outcome, said) at done events =
+    (events : List Event) → IsTranscript settings most bytes exchanges written end → exchange_at exchanges index ≡ Some e → route_of e.request.path ≡ Some Whoami
+    → e.outcome.ending ≡ Done response → response.status ≡ 200 → e.outcome.events ≡ record { op = Load cookie now; reply = reply } ∷ events
+    → (came : Bool) × (response.body ≡ user_line (visit_of came reply).user)
+page_body settings [] most bytes written end index e response cookie now reply events tr at route done ok asked = let no : None ≡ Some e = at in absurd (cc)
+page_body settings (other ∷ others) zero bytes written end index e response cookie now reply events (none, is, ended) at route done ok asked = absurd (cc)
+page_body settings (other ∷ others) (suc left) bytes written end zero e response cookie now reply events (rest, framing, outcome, said) at route done ok asked =
     let same : other ≡ e = cc in
     let mine : IsOutcome (script_in_exchange settings e) e.outcome = subst (λ x. IsOutcome (script_in_exchange settings x) x.outcome) same outcome in
-    let leads : Leads (script_in_exchange settings e) (record { op = Load cookie now; reply = reply } ∷ []) mine.left = subst (λ es. Leads (script_in_exchange settings e) es mine.left) events mine.leads in
+    let leads : Leads (script_in_exchange settings e) (record { op = Load cookie now; reply = reply } ∷ events) mine.left = subst (λ es. Leads (script_in_exchange settings e) es mine.left) asked mine.leads in
     let ends : mine.left ≡ Return response = subst (λ x. MayEnd mine.left x) done mine.ends in
-    body_of (facts_of e.request e.moment) (begun_of settings e.request) cookie now reply response (subst (λ l. Leads (script_in_exchange settings e) (record { op = Load cookie now; reply = reply } ∷ []) l) ends leads)
-page_body settings (other ∷ others) (suc left) bytes written end (suc index) e response cookie now reply (rest, framing, outcome, said) at done events =
-    after_said (response_of (nat_lt 0 left) other) others written end index e (λ later. IsTranscript settings left rest others later end) (response.body ≡ user_line (user_of reply))
-    (λ later tr. page_body settings others left rest later end index e response cookie now reply tr at done events) said at
+    body_of settings e.request (request_basis settings e.request e.moment e.words) route cookie now reply events response
+    (subst (λ l. Leads (script_in_exchange settings e) (record { op = Load cookie now; reply = reply } ∷ events) l) ends leads) ok
+page_body settings (other ∷ others) (suc left) bytes written end (suc index) e response cookie now reply events (rest, framing, outcome, said) at route done ok asked =
+    after_said (response_of (nat_lt 0 left) other) others written end index e (λ later. IsTranscript settings left rest others later end) ((came : Bool) × (response.body ≡ user_line (visit_of came reply).user))
+    (λ later tr. page_body settings others left rest later end index e response cookie now reply events tr at route done ok asked) said at
 
 -- ---- the whole
 
 pub page_names : LoadAdmitsExactly → PageNamesTheAdmitted
-page_names exactly settings server first before after found left report contents serves sound holds index e response cookie now reply at done events =
-    let turn = turn_at server first serves.exchanges serves.turns index e (Load cookie now) reply serves.turns_are at events in
+unfolding admitted_in
+page_names exactly settings server first before after found left report contents serves sound holds index e response cookie now reply events at route done ok asked =
+    let turn = turn_at server first serves.exchanges serves.turns index e (Load cookie now) reply events serves.turns_are at asked in
     let replies : StandFrom found.cfg contents.opening contents.entries (length (list_of found.kept.report)) serves.turns =
     subst (λ r. OnHolding r (λ c. StandFrom found.cfg c.opening c.entries (length (list_of found.kept.report)) serves.turns)) holds (serves.passed.replies sound) in
     let stand = stands_at found.cfg contents.opening contents.entries (length (list_of found.kept.report)) turn.0 turn.1 (tag_of server (first + index) 0) (Load cookie now) reply
     (subst (λ ts. StandFrom found.cfg contents.opening contents.entries (length (list_of found.kept.report)) ts) turn.2 replies) in
     let state : State = state_at found.cfg.engine contents.opening contents.entries stand.0 in
     let is : reply ≡ loaded found.cfg state cookie now = reply_is found.cfg contents.opening contents.entries stand.0 (tag_of server (first + index) 0) (Load cookie now) reply stand.1 stand.2 in
-    let body : response.body ≡ user_line (user_of (loaded found.cfg state cookie now)) = page_body settings serves.exchanges 1000 serves.taken serves.written report.end index e response cookie now reply serves.transcript at done events ∙ ap (λ r. user_line (user_of r)) is in
+    let shown = page_body settings serves.exchanges 1000 serves.taken serves.written report.end index e response cookie now reply events serves.transcript at route done ok asked in
+    let body : response.body ≡ user_line (admitted_in found.cfg state cookie now) =
+    shown.1 ∙ ap (λ r. user_line (visit_of shown.0 r).user) is
+    ∙ ap user_line (visitor shown.0 (verdict_of found.cfg state cookie now) state.tables.keys (found_user found.cfg.engine state cookie now) _ _) in
     record {
       index = stand.0;
       entered = stand.1;

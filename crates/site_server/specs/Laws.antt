@@ -13,6 +13,9 @@ use Rattle.session_engines.specs.Ledger.{IsSoundLedger, LedgerView}
 use Rattle.session_engines.specs.Start.{HasOpened}
 use Rattle.middleware_chain.specs.declared.settings.Settings.{Settings}
 use Rattle.middleware_chain.specs.Page.{line}
+use Rattle.middleware_chain.specs.Route.{route_of}
+use Rattle.middleware_chain.specs.declared.route.Route.TheVariants.{Whoami}
+use Rattle.account_views.specs.Walk.{Event}
 use Rattle.site_server.specs.ManageSite.{HasKnownBoots}
 use Rattle.site_server.specs.OneWorker.{Devices, Serves}
 use Rattle.site_server.specs.Outcome.{Done, Server, tag_of}
@@ -51,12 +54,13 @@ pub record NamesTheAdmitted (cfg : Cfg) (server : Server) (number : ℕ) (conten
   pub entered : entry_at contents.entries index ≡ Some (record { tag = tag_of server number 0; op = Load cookie now })
   pub page : (name : List ℕ) → (response.body ≡ codes "user=" ++ line name) ↔ Admits cfg contents index cookie now name
 
--- so it is of each request of a connection that asked who is there and was answered, over a ledger that was sound
+-- so it is of each request of a connection that asked who is there and got its page, over a ledger that was sound
 abbrev pub PageNamesTheAdmitted : Type 0
 PageNamesTheAdmitted = (settings : Settings) (server : Server) (first : ℕ) (before after : Devices) (found left : LedgerView) (report : Report) (contents : Contents)
     → (serves : Serves settings server first before after (λ turns. HaveTurned turns found left) report)
     → IsSoundLedger found → left.kept.report ≡ Holding contents
-    → (index : ℕ) (e : Exchange) (response : Response) (cookie : Option (List ℕ)) (now : ℕ) (reply : Reply)
-    → exchange_at serves.exchanges index ≡ Some e → e.outcome.ending ≡ Done response
-    → e.outcome.events ≡ record { op = Load cookie now; reply = reply } ∷ []
+    → (index : ℕ) (e : Exchange) (response : Response) (cookie : Option (List ℕ)) (now : ℕ) (reply : Reply) (others : List Event)
+    → exchange_at serves.exchanges index ≡ Some e → route_of e.request.path ≡ Some Whoami
+    → e.outcome.ending ≡ Done response → response.status ≡ 200
+    → e.outcome.events ≡ record { op = Load cookie now; reply = reply } ∷ others
     → NamesTheAdmitted found.cfg server (first + index) contents cookie now response

@@ -6,6 +6,7 @@ use Rattle.ledger_rows.specs.declared.reply.Reply.{Reply}
 use Rattle.http_edge.specs.declared.request.Request.{Request}
 use Rattle.http_edge.specs.declared.response.Response.{Response}
 use Rattle.account_views.specs.Script.{Steps, Return, Ask}
+use Rattle.account_views.specs.Walk.{IsReplyTo}
 use Rattle.session_engines.specs.declared.step_fault.StepFault.{StepFault}
 use Rattle.session_engines.specs.declared.step_fault.StepFault.TheVariants.{Keeper, Full, Memory}
 use Rattle.site_server.specs.Outcome.{AreTurnsOf, Ending, IsLastTurn, IsOutcome, MayEnd, OutOfMemory, Outcome, Server, StoreFailed, StoreFull, answer_of}
@@ -25,7 +26,7 @@ abbrev pub IsAdvance : Steps Response → (Reply → Steps Response) → Tag →
 IsAdvance left after tag Passed (Answered response) = (left ≡ Return response) × Passed []
 IsAdvance left after tag Passed (Refused fault) = MayEnd left (ending_of fault) × ((last : List Turn) × IsLastTurn (ending_of fault) last × Passed last)
 IsAdvance left after tag Passed (Replied reply) =
-    (op : Op) × (rest : Reply → Steps Response) × (left ≡ Ask op rest) × (after reply ≡ rest reply) × Passed (Did tag op reply ∷ [])
+    (op : Op) × (rest : Reply → Steps Response) × (left ≡ Ask op rest) × (after reply ≡ rest reply) × IsReplyTo op reply × Passed (Did tag op reply ∷ [])
 
 -- a request went so, with this answer
 pub record IsDriven (script : Steps Response) (server : Server) (number : ℕ) (r : Request) (Passed : List Turn → Type 0) (answer : Option Response) : Type 0 where

@@ -3,7 +3,9 @@
 ghost use Rattle.std.specs.Prelude.{◌≡◌, ◌≤◌, ◌<◌, ◌^◌, ◌+◌, ◌++◌, ℕ, List, [], Some, None, IfOk, IfSome, option_map, vec_len, vec_capacity, length};
 ghost use Rattle.http_edge.specs.ResponseText.{IsStatus};
 ghost use Rattle.crypto_text.specs.Moment.{IsMoment};
+ghost use Rattle.outside.specs.RandomWords.{words_from};
 ghost use Rattle.middleware_chain.specs.Page.{fault_page};
+ghost use Rattle.pass_hashers.specs.PasswordText.{IsUsable};
 ghost use Rattle.account_views.specs.Handler.{script};
 ghost use Rattle.site_server.specs.OneWorker.{Serves, devices};
 ghost use Rattle.site_server.specs.OwnLedger.{HaveTurned, IsUnused};
@@ -21,7 +23,7 @@ use crypto_text::Ids;
 use http_edge::{EdgeFault, Reader, Request, Response, framing_stands, read_request};
 use keepers::Keeper;
 use middleware_chain::{Settings, fault_page};
-use outside::{Clock, Sink, Source, Words, draw_request, moment_of};
+use outside::{Clock, REQUEST_WORDS, Sink, Source, Words, moment_of};
 use session_engines::Ledger;
 use std::alloc::{AllocError, Global};
 
@@ -60,7 +62,7 @@ pub struct Round {
 }
 
 /// Serves one connection of a site, at most 1,000 requests, as a worker whose next request has the number `first`. The
-/// ledger was opened under the site's settings. Neither input nor output is used again.
+/// ledger was opened under the site's settings, whose preferred hasher has allowed iterations. Neither input nor output is used again.
 pub fn serve_solo<K: Keeper, I: Source, O: Sink, C: Clock, W: Words>(
     alloc: Global,
     ledger: &mut Ledger<K>,
@@ -72,6 +74,7 @@ pub fn serve_solo<K: Keeper, I: Source, O: Sink, C: Clock, W: Words>(
     clock: &mut C,
     words: &mut W,
 ) -> Report
+    requires usable { IsUsable settings.now.cfg.preferred }
     requires first { (1 ≤ first) × (first ≤ 2 ^ 62) }
     requires cfg { ledger.old.cfg ≡ settings.now.cfg }
     requires unused { IsUnused worker first ledger.old }
@@ -100,6 +103,7 @@ pub fn serve<S: StepTaker, I: Source, O: Sink, C: Clock, W: Words>(
     clock: &mut C,
     words: &mut W,
 ) -> Report
+    requires usable { IsUsable settings.now.cfg.preferred }
     requires first { first ≤ 2 ^ 62 }
     requires own { (number step : ℕ) → S.may_enter taker.old (tag_of (record { boot = boot; worker = worker }) number step) }
     ensures { Serves settings.now (record { boot = boot; worker = worker }) first
@@ -191,6 +195,7 @@ fn serve_next<S: StepTaker, I: Source, O: Sink, C: Clock, W: Words>(
     clock: &mut C,
     words: &mut W,
 ) -> Round
+    requires usable { IsUsable settings.now.cfg.preferred }
     requires own { (step : ℕ) → S.may_enter taker.old (tag_of (server_of place) place.number step) }
     ensures { IsRound settings.now (server_of place) place.number more reader.old reader.new
         (devices (I.seen input.old) (O.seen output.old) (C.seen clock.old) (W.seen words.old))
@@ -200,8 +205,8 @@ fn serve_next<S: StepTaker, I: Source, O: Sink, C: Clock, W: Words>(
     match read_request(alloc, reader, input) {
         Ok(Some(request)) => {
             let moment = moment_of(clock.now());
-            let draw = draw_request(words);
-            let response = answer(alloc, taker, settings, place, &request, moment, draw);
+            let response = answer(alloc, taker, settings, place, &request, moment, words);
+            words.pass(REQUEST_WORDS);
             let closing = closing(more, response);
             Round {
                 moment: Some(moment),
@@ -218,22 +223,23 @@ fn serve_next<S: StepTaker, I: Source, O: Sink, C: Clock, W: Words>(
 }
 
 // The answer to a request; none where memory was out.
-fn answer<S: StepTaker>(
+fn answer<S: StepTaker, W: Words>(
     alloc: Global,
     taker: &mut S,
     settings: &Settings,
     place: Place,
     request: &Request,
     moment: u64,
-    draw: [u32; 1024],
+    words: &W,
 ) -> Option<Response>
+    requires usable { IsUsable settings.now.cfg.preferred }
     requires moment { IsMoment moment }
     requires own { (step : ℕ) → S.may_enter taker.old (tag_of (server_of place) place.number step) }
-    ensures driven { IsDriven (script settings.now request.now moment draw) (server_of place) place.number request.now (λ turns. S.passed turns taker.old taker.new) result }
+    ensures driven { IsDriven (script settings.now request.now moment (words_from (W.seen words.now) 1024)) (server_of place) place.number request.now (λ turns. S.passed turns taker.old taker.new) result }
     ensures status { IfSome result (λ response. IsStatus response.status) }
 {
-    match Machine::start(alloc, settings, request, moment, draw) {
-        Ok(mut machine) => drive(alloc, taker, settings, &mut machine, place, request),
+    match Machine::start(alloc, settings, request, moment) {
+        Ok(mut machine) => drive(alloc, taker, settings, &mut machine, words, place, request),
         Err(AllocError) => None,
     }
 }

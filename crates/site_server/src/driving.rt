@@ -3,16 +3,18 @@
 ghost use Rattle.std.specs.Prelude.{◌≡◌, ◌≢◌, None, Some, IfOk, IfSome, ℕ, List, []};
 ghost use Rattle.std.specs.Result.{result_ok};
 ghost use Rattle.http_edge.specs.ResponseText.{IsStatus};
+ghost use Rattle.pass_hashers.specs.PasswordText.{IsUsable};
 ghost use Rattle.account_views.specs.Machine.{left};
 ghost use Rattle.account_views.specs.Walk.{AtMost, IsProper};
 ghost use Rattle.site_server.specs.Outcome.{answer_of, tag_of};
 ghost use Rattle.site_server.specs.Step.{IsAdvance, IsDriven, ending_of, server_of};
 
 use crate::step_taker::StepTaker;
-use account_views::{Machine, Next};
+use account_views::{Machine, Next, hash_is_text};
 use http_edge::{Request, Response};
 use ledger_rows::{Reply, Tag};
 use middleware_chain::{Settings, full_page, store_page};
+use outside::Words;
 use session_engines::StepFault;
 use std::alloc::{AllocError, Global};
 
@@ -42,18 +44,20 @@ pub enum Advance {
 }
 
 /// Takes the steps that a request asks for, in order, and none after a refused one. None where memory was out.
-pub fn drive<S: StepTaker>(
+pub fn drive<S: StepTaker, W: Words>(
     alloc: Global,
     taker: &mut S,
     settings: &Settings,
     machine: &mut Machine,
+    words: &W,
     place: Place,
     request: &Request,
 ) -> Option<Response>
-    requires few { AtMost 21 (left settings.now machine.old None) }
-    requires proper { IsProper (left settings.now machine.old None) }
+    requires usable { IsUsable settings.now.cfg.preferred }
+    requires few { AtMost 21 (left settings.now (W.seen words.now) machine.old None) }
+    requires proper { IsProper (left settings.now (W.seen words.now) machine.old None) }
     requires own { (step : ℕ) → S.may_enter taker.old (tag_of (server_of place) place.number step) }
-    ensures driven { IsDriven (left settings.now machine.old None) (server_of place) place.number request.now (λ turns. S.passed turns taker.old taker.new) result }
+    ensures driven { IsDriven (left settings.now (W.seen words.now) machine.old None) (server_of place) place.number request.now (λ turns. S.passed turns taker.old taker.new) result }
     ensures status { IfSome result (λ response. IsStatus response.status) }
 {
     let mut reply = None;
@@ -64,7 +68,7 @@ pub fn drive<S: StepTaker>(
             request: place.number,
             step,
         };
-        match take_turn(alloc, taker, settings, machine, reply, tag) {
+        match take_turn(alloc, taker, settings, machine, words, reply, tag) {
             Advance::Answered(response) => return Some(response),
             Advance::Refused(fault) => return refusal(alloc, fault, request),
             Advance::Replied(given) => reply = Some(given),
@@ -74,22 +78,27 @@ pub fn drive<S: StepTaker>(
 }
 
 // Calls the machine, and takes the step that it asks for.
-fn take_turn<S: StepTaker>(
+fn take_turn<S: StepTaker, W: Words>(
     alloc: Global,
     taker: &mut S,
     settings: &Settings,
     machine: &mut Machine,
+    words: &W,
     reply: Option<Reply>,
     tag: Tag,
 ) -> Advance
+    requires usable { IsUsable settings.now.cfg.preferred }
     requires own { S.may_enter taker.old tag }
-    requires proper { IsProper (left settings.now machine.old reply) }
-    ensures { IsAdvance (left settings.now machine.old reply) (λ given. left settings.now machine.new (Some given)) tag (λ turns. S.passed turns taker.old taker.new) result }
+    requires proper { IsProper (left settings.now (W.seen words.now) machine.old reply) }
+    ensures { IsAdvance (left settings.now (W.seen words.now) machine.old reply) (λ given. left settings.now (W.seen words.now) machine.new (Some given)) tag (λ turns. S.passed turns taker.old taker.new) result }
 {
-    match machine.next(alloc, settings, reply) {
+    match machine.next(alloc, settings, words, reply) {
         Ok(Next::Done(response)) => Advance::Answered(response),
         Ok(Next::Step(op)) => match taker.step(alloc, tag, &op) {
-            Ok(given) => Advance::Replied(given),
+            Ok(given) => {
+                hash_is_text(&given);
+                Advance::Replied(given)
+            }
             Err(fault) => Advance::Refused(fault),
         },
         Err(AllocError) => Advance::Refused(StepFault::Memory),

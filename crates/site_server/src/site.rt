@@ -2,6 +2,7 @@
 
 ghost use Rattle.std.specs.Prelude.{◌≡◌, ◌≤◌, ◌⊎◌, ◌↔◌, ℕ, None, IfOk, IfSome, IsErrOf, MatchOption, string_bytes, take};
 ghost use Rattle.outside.specs.Faults.{Rose};
+ghost use Rattle.pass_hashers.specs.PasswordText.{IsUsable};
 ghost use Rattle.ledger_rows.specs.Opening.{IsOpening};
 ghost use Rattle.site_server.specs.Command.{asked_by_command, asked_of, usage_line};
 ghost use Rattle.site_server.specs.ManageSite.{HasKnownBoots, IsNotOpened, IsOpened, Runs, RunsCommand, RunsSeeded, run_world, settings_line};
@@ -114,6 +115,7 @@ fn run<I: Source, O: Sink, K: Keeper, C: Clock, W: Words>(
     draw: &mut W,
 ) -> (Status, K)
     requires opening { IsOpening site.opening }
+    requires usable { IsUsable site.settings.cfg.preferred }
     requires boots { HasKnownBoots (K.seen keeper) }
     ensures runs { RunsCommand (asked_by_command command.entry) site
         (run_world (devices (I.seen input.old) (O.seen output.old) (C.seen clock.old) (W.seen draw.old)) (K.seen keeper))
@@ -141,6 +143,7 @@ fn run<I: Source, O: Sink, K: Keeper, C: Clock, W: Words>(
 fn load_site<S: Source>(alloc: Global, settings: &mut S) -> Result<SettingsAll, SiteFault>
     ensures ok { IfOk result (λ site. IfSome (S.seen settings.old).left (λ left. IsSiteOf (take 4194305 left) (Says site))) }
     ensures opening { IfOk result (λ site. IsOpening site.opening) }
+    ensures usable { IfOk result (λ site. IsUsable site.settings.cfg.preferred) }
     ensures wrong { (field : ℕ) → IsErrOf result (SiteFault.Wrong field) → IfSome (S.seen settings.old).left (λ left. IsSiteOf (take 4194305 left) (Wrong field)) }
     ensures unread { IsErrOf result SiteFault.Unread → Rose (S.seen settings.old).faults (S.seen settings.new).faults }
 {
@@ -183,6 +186,7 @@ fn pipe<I: Source, O: Sink, K: Keeper, C: Clock, W: Words>(
     draw: &mut W,
 ) -> (Status, K)
     requires opening { IsOpening site.opening }
+    requires usable { IsUsable site.settings.cfg.preferred }
     requires boots { HasKnownBoots (K.seen keeper) }
     ensures runs { let before = run_world (devices (I.seen input.old) (O.seen output.old) (C.seen clock.old) (W.seen draw.old)) (K.seen keeper) in
         let after = run_world (devices (I.seen input.new) (O.seen output.new) (C.seen clock.new) (W.seen draw.new)) (K.seen result.1) in

@@ -3,9 +3,15 @@ ghost use Rattle.site_server.specs.ManageSite.{HasKnownBoots};
 mod answers;
 mod connection;
 mod devices;
+mod other_worker;
+mod runs;
+mod session_forms;
+mod session_route;
+mod session_writes;
 mod sessions;
 mod signing;
 mod store;
+mod stored;
 
 use crate::site::{manage, manage_seeded};
 use crate::status::Status;

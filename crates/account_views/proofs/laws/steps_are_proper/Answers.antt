@@ -1,4 +1,4 @@
-use Rattle.account_views.proofs.LawLemmas.{steps_are_proper}
+use Rattle.account_views.proofs.ProperScripts.{steps_are_proper}
 use Rattle.account_views.proofs.laws.steps_are_proper.Goals as goal
 
 pub returns : goal.returns

@@ -1,10 +1,10 @@
-use Rattle.std.proofs.Common.{◌≡◌, ℕ, List, Option, None, [], ◌∷◌, Bor, map, sym, ap, ◌∙◌, lit<}
+use Rattle.std.proofs.Common.{◌≡◌, ℕ, List, None, [], ◌∷◌, Bor, map, sym, ap, ◌∙◌, lit<}
 use Rattle.std.specs.Option.{option_copied}
 use Rattle.std.proofs.lemmas.Iterator.Consumers.{YieldsList-end}
 use Rattle.std.proofs.lemmas.Iterator.Splits.{YieldsList-from_str_split}
 use Rattle.std.proofs.lemmas.List.{map-append}
 use Rattle.cookie_text.specs.CookieHeader.{named_value, pairs_of, value_of}
-use Rattle.cookie_text.proofs.CookieHeaderLemmas.{pairs_in, value_of-found, value_of-other}
+use Rattle.cookie_text.proofs.CookieHeaderLemmas.{pairs_in, value_of-other}
 use Rattle.cookie_text.proofs.cookie_header.cookie_value.Goals as goal
 
 pub loop-piece-preserved : goal.loop-piece-preserved

@@ -11,8 +11,8 @@ pub returns-clause-form : goal.returns-clause-form
 unfolding opening_from
 returns-clause-form c =
     let entries = c.args.entries in
-    let rows : c.from_vec.result ≡ map (session_row c.args.keys entries.users) entries.sessions =
+    let rows : c.from_vec.result ≡ map (session_row c.args.keys c.args.backends.now entries.users) entries.sessions =
     rw (c.from_vec.ensures, c.in_ok-sessions.ensures, c.items.ensures, c.items-2.ensures) refl in
     let IsStart : List SessionRow → Type 0 = λ sessions.
     let opening : Opening = record { keys = c.args.keys; users = entries.users; groups = entries.groups; perms = entries.perms; sessions = sessions } in IsOpening opening in
-    subst IsStart (sym rows) (opening_from-form c.args.keys entries (subst IsKeys c.keys.view_is c.keys.invariant) c.requires)
+    subst IsStart (sym rows) (opening_from-form c.args.keys c.args.backends.now entries (subst IsKeys c.keys.view_is c.keys.invariant) c.requires)

@@ -1,4 +1,4 @@
-use Rattle.std.proofs.Common.{subst, Ok, Err}
+use Rattle.std.proofs.Common.{refl, subst, Ok, Err}
 use Rattle.http_edge.specs.Stream.{AnswersTaken}
 use Rattle.site_server.specs.Saying.{IsSaidOf}
 use Rattle.site_server.proofs.RoundLemmas.{round_answered, round_over, round_refused, round_unread}
@@ -8,7 +8,7 @@ pub returns-in-Ok-Some : goal.returns-in-Ok-Some
 returns-in-Ok-Some g c =
     round_answered c.args.settings.now _ _ c.args.more _ _ _ _ _ _ _ _ _ _ (λ turns. g.S.StepTaker.passed turns c.args.taker.now c.answer-response.new.taker) c.in-Ok-Some.request c.now.result c.moment_of-moment.result _ c.answer-response.result c.closing-closing.result c.say.result
     (subst (λ f. AnswersTaken c.args.reader.now (g.I.Source.seen c.args.input.now) (Ok f) c.read_request.new.reader (g.I.Source.seen c.read_request.new.source)) c.in-Ok-Some.field-0-is c.in-Ok-Some.ensures.reads)
-    c.now.ensures c.moment_of-moment.ensures.value c.draw_request-draw.ensures.value c.draw_request-draw.ensures.rest c.answer-response.ensures.driven c.closing-closing.ensures
+    c.now.ensures c.moment_of-moment.ensures.value refl c.pass.ensures c.answer-response.ensures.driven c.closing-closing.ensures
     (subst (λ shown. IsSaidOf shown (g.O.Sink.seen c.args.output.now) (g.O.Sink.seen c.say.new.output) c.say.result) c.as_ref.ensures.value c.say.ensures)
 
 pub returns-in-Ok-None : goal.returns-in-Ok-None

@@ -7,4 +7,4 @@ use Rattle.site_server.proofs.driving.drive.Given as goal
 -- the steps so far are those of the script, and the machine stands for what is left of it
 abbrev pub invariant-loop-step : goal.invariant-loop-step
 invariant-loop-step g l =
-    IsUnderway g.S.StepTaker.passed g.S.StepTaker.may_enter (server_of l.place) (left l.settings l.fn.machine None) (left l.settings l.machine l.reply) l.place.number l.step l.fn.taker l.taker
+    IsUnderway g.S.StepTaker.passed g.S.StepTaker.may_enter (server_of l.place) (left l.settings (g.W.Words.seen l.words) l.fn.machine None) (left l.settings (g.W.Words.seen l.words) l.machine l.reply) l.place.number l.step l.fn.taker l.taker
