@@ -18,5 +18,6 @@ pub mod ProperScripts
 pub mod RandomTextLemmas
 pub mod ShownLemmas
 pub mod TextLemmas
+pub mod VisitLemmas
 pub mod WalkLemmas
 pub mod WriteLemmas

@@ -40,9 +40,14 @@ pub fn visit_of(alloc: Global, came: bool, reply: Reply) -> Result<Visit, AllocE
     }
 }
 
+#[tactic(auto, using(crate::proofs::VisitLemmas::empty_payload_reads))]
 fn map_in(alloc: Global, payload: &Text) -> Result<SessionMap, AllocError>
     ensures { IfOk result (λ map. map ≡ map_in payload.now) }
 {
+    // What most visitors have isn't parsed, which would cost as much as the rest of their request.
+    if payload.as_str() == "{}" {
+        return Ok(SessionMap::new(alloc));
+    }
     match from_payload(alloc, payload.as_str()) {
         Ok(map) => Ok(map),
         Err(DecodeFault::Memory) => Err(AllocError),
