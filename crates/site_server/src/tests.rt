@@ -1,8 +1,11 @@
 ghost use Rattle.site_server.specs.ManageSite.{HasKnownBoots};
 
 mod answers;
+mod browser_day;
 mod connection;
 mod devices;
+mod login_forms;
+mod logins;
 mod other_worker;
 mod runs;
 mod session_forms;
@@ -161,10 +164,23 @@ fn run_over<O: Sink, K: Keeper>(
 ) -> Result<(Status, K), AllocError>
     requires { HasKnownBoots (K.seen keeper) }
 {
+    let mut draw = draw(alloc);
+    run_drawing(alloc, words, site, output, keeper, &mut draw)
+}
+
+fn run_drawing<O: Sink, K: Keeper, W: Words>(
+    alloc: Global,
+    words: &TextList,
+    site: &Given<'_>,
+    output: &mut O,
+    keeper: K,
+    draw: &mut W,
+) -> Result<(Status, K), AllocError>
+    requires { HasKnownBoots (K.seen keeper) }
+{
     let mut settings = source(alloc, site.settings.as_bytes(), 65_536, &[])?;
     let mut input = source(alloc, site.input, site.piece, site.read_fails)?;
     let mut clock = clock(alloc, &[site.now])?;
-    let mut draw = draw(alloc);
     Ok(manage_over(
         alloc,
         words,
@@ -173,7 +189,7 @@ fn run_over<O: Sink, K: Keeper>(
         output,
         keeper,
         &mut clock,
-        &mut draw,
+        draw,
     ))
 }
 

@@ -1,5 +1,6 @@
-//! A request between whose steps another worker takes one.
+//! Requests between whose steps another worker takes some.
 
+use super::logins::*;
 use super::runs::*;
 use super::stored::*;
 use super::*;
@@ -14,11 +15,11 @@ use std::str::from_utf8;
 const WITH_ENTRY: &str =
     r#"{"_auth_user_backend":"django.contrib.auth.backends.ModelBackend","_auth_user_hash":"94270d73c07ade8a370c7e654f8f8829baaffa1653e6c9641487d371331bcb81","_auth_user_id":"1","n":"v"}"#;
 
-/// A ledger on which the other worker's step comes right before a step of this number.
+/// A ledger on which the other worker's steps come right before the first request's step of this number.
 #[derive(Drop)]
 struct Shared<K: Keeper> {
     ledger: Ledger<K>,
-    other: Asked<'static>,
+    other: &'static [Asked<'static>],
     before: u64,
 }
 
@@ -28,8 +29,8 @@ impl<K: Keeper> StepTaker for Shared<K> {
     ghost may_enter = { λ taker tag. Unit {0} };
 
     fn step(&mut self, alloc: Global, tag: Tag, op: &Op) -> Result<Reply, StepFault> {
-        if tag.step == self.before {
-            take(alloc, &mut self.ledger, self.other)?;
+        if tag.request == 1 && tag.step == self.before {
+            take_all(alloc, &mut self.ledger, self.other)?;
         }
         Ledger::step(&mut self.ledger, alloc, tag, op)
     }
@@ -41,18 +42,35 @@ impl<K: Keeper> StepTaker for Shared<K> {
     ghost keeps = { λ turns first last tag passed own. tt };
 }
 
+fn take_all<K: Keeper>(
+    alloc: Global,
+    ledger: &mut Ledger<K>,
+    others: &[Asked<'_>],
+) -> Result<(), StepFault> {
+    for (step, other) in others.iter().enumerate() {
+        take(alloc, ledger, step as u64, *other)?;
+    }
+    Ok(())
+}
+
 fn take<K: Keeper>(
     alloc: Global,
     ledger: &mut Ledger<K>,
+    step: u64,
     other: Asked<'_>,
 ) -> Result<(), StepFault> {
     let Ok(op) = op_of(alloc, other) else {
         return Err(StepFault::Memory);
     };
-    take_op(alloc, ledger, &op)
+    take_op(alloc, ledger, step, &op)
 }
 
-fn take_op<K: Keeper>(alloc: Global, ledger: &mut Ledger<K>, op: &Op) -> Result<(), StepFault> {
+fn take_op<K: Keeper>(
+    alloc: Global,
+    ledger: &mut Ledger<K>,
+    step: u64,
+    op: &Op,
+) -> Result<(), StepFault> {
     if *op == Op::Boot || op_ok(alloc, op) != Ok(true) {
         return Err(StepFault::Full);
     }
@@ -60,7 +78,7 @@ fn take_op<K: Keeper>(alloc: Global, ledger: &mut Ledger<K>, op: &Op) -> Result<
         boot: 1,
         worker: 2,
         request: 1,
-        step: 0,
+        step,
     };
     ledger.step(alloc, tag, op).map(|_| ())
 }
@@ -76,7 +94,7 @@ fn serve_over<K: Keeper, I: Source, O: Sink, C: Clock, W: Words>(
     clock: &mut C,
     draw: &mut W,
 ) -> Result<Option<K>, AllocError> {
-    let Ok(SettingsAll { settings, opening }) = read_settings(alloc, TWO_KEYS_SITE.as_bytes())
+    let Ok(SettingsAll { settings, opening }) = read_settings(alloc, case.settings.as_bytes())
     else {
         return Ok(None);
     };
@@ -96,24 +114,26 @@ fn serve_over<K: Keeper, I: Source, O: Sink, C: Clock, W: Words>(
     Ok(Some(taker.ledger.close()))
 }
 
-/// A request, the step of the other worker, before which of its own it comes, and what is left.
+/// A site, the steps of the other worker, before which one of the first request they come, and what is left.
 #[derive(Clone, Copy)]
 struct Case {
-    other: Asked<'static>,
+    settings: &'static str,
+    other: &'static [Asked<'static>],
     before: u64,
-    answer: Answer<'static>,
+    answers: &'static [Answer<'static>],
     steps: &'static [Done<'static>],
     rows: &'static [Row<'static>],
 }
 
 const AFTER_RETIREMENT: Case = Case {
-    other: Asked::RetireKeys,
+    settings: TWO_KEYS_SITE,
+    other: &[Asked::RetireKeys],
     before: 0,
-    answer: Answer {
+    answers: &[Answer {
         status: "200 OK",
         lines: "Vary: Cookie\r\n",
         body: "anonymous\n",
-    },
+    }],
     steps: &[
         Done {
             worker: 2,
@@ -138,13 +158,14 @@ const AFTER_RETIREMENT: Case = Case {
 };
 
 const AFTER_DELETION: Case = Case {
-    other: Asked::Delete(ALICES_KEY),
+    settings: TWO_KEYS_SITE,
+    other: &[Asked::Load(Some(ALICES_KEY)), Asked::Delete(ALICES_KEY)],
     before: 1,
-    answer: Answer {
+    answers: &[Answer {
         status: "400 Bad Request",
         lines: "Vary: Cookie\r\n",
         body: "error=session-deleted\n",
-    },
+    }],
     steps: &[
         Done {
             worker: 1,
@@ -156,6 +177,12 @@ const AFTER_DELETION: Case = Case {
             worker: 2,
             request: 1,
             step: 0,
+            what: Asked::Load(Some(ALICES_KEY)),
+        },
+        Done {
+            worker: 2,
+            request: 1,
+            step: 1,
             what: Asked::Delete(ALICES_KEY),
         },
         Done {
@@ -167,6 +194,158 @@ const AFTER_DELETION: Case = Case {
     ],
     rows: &[SECOND_ROW],
 };
+
+/// A login between whose look for the user and whose new session the keys change, and a request with that session.
+const AFTER_ROTATION: Case = Case {
+    settings: TWO_KEYS_SITE,
+    other: &[Asked::Rotate("k9"), Asked::RetireKeys],
+    before: 2,
+    answers: &[
+        LOGGED_IN,
+        Answer {
+            status: "200 OK",
+            lines: FORGOTTEN,
+            body: "anonymous\n",
+        },
+    ],
+    steps: &[
+        Done {
+            worker: 1,
+            request: 1,
+            step: 0,
+            what: Asked::Load(None),
+        },
+        Done {
+            worker: 1,
+            request: 1,
+            step: 1,
+            what: Asked::Find("alice"),
+        },
+        Done {
+            worker: 2,
+            request: 1,
+            step: 0,
+            what: Asked::Rotate("k9"),
+        },
+        Done {
+            worker: 2,
+            request: 1,
+            step: 1,
+            what: Asked::RetireKeys,
+        },
+        Done {
+            worker: 1,
+            request: 1,
+            step: 2,
+            what: Asked::Stamp,
+        },
+        Done {
+            worker: 1,
+            request: 1,
+            step: 3,
+            what: Asked::Begin(NEW_KEY, LOGIN),
+        },
+        Done {
+            worker: 1,
+            request: 2,
+            step: 0,
+            what: Asked::Load(Some(NEW_KEY)),
+        },
+        Done {
+            worker: 1,
+            request: 2,
+            step: 1,
+            what: Asked::Delete(NEW_KEY),
+        },
+    ],
+    rows: &[
+        Row {
+            map: None,
+            ..FIRST_ROW
+        },
+        Row {
+            map: None,
+            ..SECOND_ROW
+        },
+    ],
+};
+
+/// A login whose user gets another password text before the one of this login is written.
+const AFTER_CHANGE: Case = Case {
+    settings: UPGRADING_SITE,
+    other: &[Asked::Password(ALICES_TEXT, OTHER_TEXT)],
+    before: 2,
+    answers: &[NOT_LOGGED_IN],
+    steps: &[
+        Done {
+            worker: 1,
+            request: 1,
+            step: 0,
+            what: Asked::Load(None),
+        },
+        Done {
+            worker: 1,
+            request: 1,
+            step: 1,
+            what: Asked::Find("alice"),
+        },
+        Done {
+            worker: 2,
+            request: 1,
+            step: 0,
+            what: Asked::Password(ALICES_TEXT, OTHER_TEXT),
+        },
+        Done {
+            worker: 1,
+            request: 1,
+            step: 2,
+            what: Asked::Password(ALICES_TEXT, UPGRADED_TEXT),
+        },
+    ],
+    rows: &[],
+};
+
+/// A session that is deleted before it gets another key.
+const BEFORE_CYCLE: Case = Case {
+    settings: TWO_KEYS_SITE,
+    other: &[Asked::Delete(SECOND_KEY)],
+    before: 1,
+    answers: &[Answer {
+        status: "400 Bad Request",
+        lines: "Vary: Cookie\r\n",
+        body: "error=session-deleted\n",
+    }],
+    steps: &[
+        Done {
+            worker: 1,
+            request: 1,
+            step: 0,
+            what: Asked::Load(Some(SECOND_KEY)),
+        },
+        Done {
+            worker: 2,
+            request: 1,
+            step: 0,
+            what: Asked::Delete(SECOND_KEY),
+        },
+        Done {
+            worker: 1,
+            request: 1,
+            step: 1,
+            what: Asked::Cycle(SECOND_KEY, LOGIN),
+        },
+    ],
+    rows: &[FIRST_ROW],
+};
+
+/// The text of all responses.
+fn answers_text(alloc: Global, answers: &[Answer<'_>]) -> Result<String, AllocError> {
+    let mut text = String::new(alloc);
+    for answer in answers {
+        text.push_str(answer_text(alloc, answer)?.as_str())?;
+    }
+    Ok(text)
+}
 
 fn leaves_as(rt: &impl Abort, alloc: Global, input: &str, case: &Case) -> Result<(), Fail> {
     let mut input = source(alloc, input.as_bytes(), 4096, &[])?;
@@ -186,10 +365,11 @@ fn leaves_as(rt: &impl Abort, alloc: Global, input: &str, case: &Case) -> Result
     let Some(mut keeper) = served else {
         panic!(rt; "the store isn't opened");
     };
-    let due = answer_text(alloc, &case.answer)?;
+    let due = answers_text(alloc, case.answers)?;
     assert_eq!(rt; from_utf8(output.bytes()).ok(), Some(due.as_str()));
     assert!(rt; are_entered(alloc, keeper.entries(), case.steps)?);
     assert!(rt; are_stored(alloc, &mut keeper, case.rows)?);
+    assert!(rt; is_alice(alloc, &mut keeper, case.steps)?);
     Ok(())
 }
 
@@ -208,4 +388,29 @@ fn a_deleted_session_is_not_brought_back(rt: HostRuntime) -> Result<(), Fail> {
     let form = "name=n&value=v&csrfmiddlewaretoken=aaaaaaaaaaaaaaaaaaaaaaaaaaaaaaaa";
     let input = post(alloc, cookie.as_str(), form)?;
     leaves_as(&rt, alloc, input.as_str(), &AFTER_DELETION)
+}
+
+#[test]
+fn a_session_that_is_gone_gets_no_other_key(rt: HostRuntime) -> Result<(), Fail> {
+    let alloc = rt.alloc();
+    let input =
+        "GET /whoami/ HTTP/1.1\r\nHost: example.com\r\nCookie: sessionid=s2s2s2s2s2s2s2s2s2s2s2s2s2s2s2s2\r\n\r\n";
+    leaves_as(&rt, alloc, input, &BEFORE_CYCLE)
+}
+
+#[test]
+fn a_login_whose_key_is_retired_meanwhile_admits_nobody(rt: HostRuntime) -> Result<(), Fail> {
+    let alloc = rt.alloc();
+    let mut input = post_to(alloc, "/login/", CSRF_COOKIE, LOGIN_FORM)?;
+    input.push_str(
+        "GET /whoami/ HTTP/1.1\r\nHost: example.com\r\nCookie: sessionid=aaaaaaaaaaaaaaaaaaaaaaaaaaaaaaaa\r\n\r\n",
+    )?;
+    leaves_as(&rt, alloc, input.as_str(), &AFTER_ROTATION)
+}
+
+#[test]
+fn a_login_keeps_a_text_that_was_changed_meanwhile(rt: HostRuntime) -> Result<(), Fail> {
+    let alloc = rt.alloc();
+    let input = post_to(alloc, "/login/", CSRF_COOKIE, LOGIN_FORM)?;
+    leaves_as(&rt, alloc, input.as_str(), &AFTER_CHANGE)
 }

@@ -1,6 +1,6 @@
 //! Runs of requests with steps, compared whole: the responses, the audit list, and the sessions that are left.
 
-use super::stored::{Row, are_stored};
+use super::stored::{Row, are_stored, is_alice};
 use super::*;
 use std::str::from_utf8;
 
@@ -41,6 +41,16 @@ pub(super) enum Asked<'a> {
     Cycle(&'a str, &'a str),
     Delete(&'a str),
     RetireKeys,
+    /// A session of this map under a key.
+    Begin(&'a str, &'a str),
+    /// Another key in place of the old one, with this map.
+    Move(&'a str, &'a str, &'a str),
+    Rotate(&'a str),
+    Find(&'a str),
+    /// Of user 1, the fresh text in place of the expected one.
+    Password(&'a str, &'a str),
+    /// Of a login of user 1.
+    Stamp,
 }
 
 /// A step of worker 1.
@@ -97,9 +107,19 @@ pub(super) fn answer_texts(
 
 /// The text of a request that sends a form to `/session/`.
 pub(super) fn post(alloc: Global, cookie: &str, form: &str) -> Result<String, AllocError> {
+    post_to(alloc, "/session/", cookie, form)
+}
+
+/// The text of a request that sends a form to a path.
+pub(super) fn post_to(
+    alloc: Global,
+    path: &str,
+    cookie: &str,
+    form: &str,
+) -> Result<String, AllocError> {
     let length = form.len();
     format!(in alloc;
-        "POST /session/ HTTP/1.1\r\nHost: example.com\r\nCookie: {cookie}\r\nContent-Type: application/x-www-form-urlencoded\r\nContent-Length: {length}\r\n\r\n{form}"
+        "POST {path} HTTP/1.1\r\nHost: example.com\r\nCookie: {cookie}\r\nContent-Type: application/x-www-form-urlencoded\r\nContent-Length: {length}\r\n\r\n{form}"
     )
 }
 
@@ -111,14 +131,28 @@ pub(super) fn leaves(
     left: &Left<'_>,
     case: &str,
 ) -> Result<(), Fail> {
+    let mut draw = draw(alloc);
+    leaves_drawing(rt, alloc, given, left, case, &mut draw)
+}
+
+/// The same with other random words.
+pub(super) fn leaves_drawing<W: Words>(
+    rt: &impl Abort,
+    alloc: Global,
+    given: &Given<'_>,
+    left: &Left<'_>,
+    case: &str,
+    draw: &mut W,
+) -> Result<(), Fail> {
     let words = words_of(alloc, &["site.json", "mem", "pipe"])?;
     let mut output = sink(alloc, given.write_fails)?;
     let keeper = MemKeeper::new(alloc, Ids::of(alloc, given.store_fails)?);
-    let (status, mut keeper) = run_over(alloc, &words, given, &mut output, keeper)?;
+    let (status, mut keeper) = run_drawing(alloc, &words, given, &mut output, keeper, draw)?;
     assert_eq!(rt; status, Status::Done, "{case}");
     assert_eq!(rt; from_utf8(output.bytes()).ok(), Some(left.output), "{case}");
     assert!(rt; are_entered(alloc, keeper.entries(), left.steps)?, "{case}");
     assert!(rt; are_stored(alloc, &mut keeper, left.rows)?, "{case}");
+    assert!(rt; is_alice(alloc, &mut keeper, left.steps)?, "{case}");
     Ok(())
 }
 
@@ -180,5 +214,36 @@ pub(super) fn op_of(alloc: Global, asked: Asked<'_>) -> Result<Op, AllocError> {
             key: text_of(alloc, key)?,
         }),
         Asked::RetireKeys => Ok(Op::RetireKeys),
+        _ => other_op(alloc, asked),
+    }
+}
+
+fn other_op(alloc: Global, asked: Asked<'_>) -> Result<Op, AllocError> {
+    match asked {
+        Asked::Begin(key, map) => Ok(Op::Create {
+            key: text_of(alloc, key)?,
+            payload: text_of(alloc, map)?,
+            seconds: USUAL_SECONDS,
+            now: NOW,
+        }),
+        Asked::Move(old, key, map) => Ok(Op::Cycle {
+            old: text_of(alloc, old)?,
+            key: text_of(alloc, key)?,
+            payload: text_of(alloc, map)?,
+            seconds: USUAL_SECONDS,
+            now: NOW,
+        }),
+        Asked::Rotate(key) => Ok(Op::RotateKey {
+            key: Bytes::of(alloc, key.as_bytes())?,
+        }),
+        Asked::Find(name) => Ok(Op::FindUser {
+            name: text_of(alloc, name)?,
+        }),
+        Asked::Password(expected, fresh) => Ok(Op::SetPassword {
+            user: 1,
+            expected: text_of(alloc, expected)?,
+            fresh: text_of(alloc, fresh)?,
+        }),
+        _ => Ok(Op::SetLastLogin { user: 1, now: NOW }),
     }
 }

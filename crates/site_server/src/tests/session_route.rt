@@ -28,6 +28,10 @@ const BAD_ENTRY: Answer<'static> = Answer {
 const LIST_REQUEST: &str =
     "GET /session/ HTTP/1.1\r\nHost: example.com\r\nCookie: sessionid=aaaaaaaaaaaaaaaaaaaaaaaaaaaaaaaa\r\n\r\n";
 
+/// The same without a body.
+const HEAD_REQUEST: &str =
+    "HEAD /session/ HTTP/1.1\r\nHost: example.com\r\nCookie: sessionid=aaaaaaaaaaaaaaaaaaaaaaaaaaaaaaaa\r\n\r\n";
+
 /// A load without a cookie, and then a new session of this map.
 fn begins_with(map: &str, seconds: u64) -> [Done<'_>; 2] {
     let load = step_at(1, 0, Asked::Load(None));
@@ -41,10 +45,21 @@ fn an_entry_begins_a_session_that_lists_it(rt: HostRuntime) -> Result<(), Fail> 
     let form = format!(in alloc; "name=n&value=&expiry=0&{TOKEN}")?;
     let mut input = post(alloc, CSRF_COOKIE, form.as_str())?;
     input.push_str(LIST_REQUEST)?;
-    let output = answer_texts(alloc, &BEGUN, &LISTED)?;
+    input.push_str(HEAD_REQUEST)?;
+    let mut output = answer_texts(alloc, &BEGUN, &LISTED)?;
+    let head = page(
+        alloc,
+        LISTED.status,
+        LISTED.body.len(),
+        LISTED.lines,
+        "keep-alive",
+        "",
+    )?;
+    output.push_str(head.as_str())?;
     let map = "{\"_session_expiry\":0,\"n\":\"\"}";
     let [load, create] = begins_with(map, USUAL_SECONDS);
     let load_again = step_at(2, 0, Asked::Load(Some(NEW_KEY)));
+    let load_for_head = step_at(3, 0, Asked::Load(Some(NEW_KEY)));
     let row = Row {
         key: NEW_KEY,
         expire: USUAL_END,
@@ -52,7 +67,7 @@ fn an_entry_begins_a_session_that_lists_it(rt: HostRuntime) -> Result<(), Fail> 
     };
     let left = Left {
         output: output.as_str(),
-        steps: &[load, create, load_again],
+        steps: &[load, create, load_again, load_for_head],
         rows: &[row],
     };
     let given = site(SETTINGS, input.as_str());

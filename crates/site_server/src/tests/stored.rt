@@ -1,6 +1,6 @@
 //! The sessions that a run leaves in the store.
 
-use super::runs::NOW;
+use super::runs::{Asked, Done, NOW};
 use super::*;
 use keepers::KeeperFault;
 use ledger_rows::SessionRow;
@@ -86,4 +86,46 @@ fn is_readable<K: Keeper>(
         Err(_) => None,
     };
     Ok(map.as_ref().map(|text| text.as_str()) == due.map)
+}
+
+/// The password text of user 1, of the password `wxyz`.
+pub(super) const ALICES_TEXT: &str = "md5$abcdefghijklmnopqrstuv$c3fcd3d76192e4007dfb496cca67e13b";
+
+/// Whether user 1, where there is one, has the last password text and the moment of the last login that these steps leave: each
+/// change that expects the text before it is done.
+pub(super) fn is_alice<K: Keeper>(
+    alloc: Global,
+    keeper: &mut K,
+    steps: &[Done<'_>],
+) -> Result<bool, KeeperFault> {
+    if keeper.is_new()? {
+        return Ok(false);
+    }
+    match keeper.user_by_id(alloc, 1)? {
+        Some(row) => Ok(
+            row.password.as_str() == text_after(steps) && row.last_login == login_after(steps),
+        ),
+        None => Ok(true),
+    }
+}
+
+fn text_after<'a>(steps: &[Done<'a>]) -> &'a str {
+    let mut text = ALICES_TEXT;
+    for step in steps {
+        if let Asked::Password(expected, fresh) = step.what {
+            if expected == text {
+                text = fresh;
+            }
+        }
+    }
+    text
+}
+
+fn login_after(steps: &[Done<'_>]) -> Option<u64> {
+    for step in steps {
+        if let Asked::Stamp = step.what {
+            return Some(NOW);
+        }
+    }
+    None
 }
