@@ -1,0 +1,10 @@
+pub mod Checking
+pub mod CommandScript
+pub mod InputLine
+pub mod Laws
+pub mod Machine
+pub mod Refusal
+pub mod ReplyReading
+pub mod StoreCommand
+pub mod Task
+pub mod Walk
