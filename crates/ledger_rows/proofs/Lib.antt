@@ -4,4 +4,5 @@ pub mod PayloadLemmas
 pub mod TableLemmas
 pub mod OpeningLemmas
 pub mod AdmissionLemmas
+pub mod AuthKeyLemmas
 pub mod UserLemmas

@@ -1,21 +1,21 @@
 //! Who a stored session speaks for.
 
-ghost use Rattle.std.specs.Prelude.{◌≡◌, ◌↔◌, IfOk, IsTrue};
+ghost use Rattle.std.specs.Prelude.{◌≡◌, IfOk};
 ghost use Rattle.std.specs.Option.{option_copied};
 ghost use Rattle.crypto_text.specs.Hexadecimal.{hex_text};
 ghost use Rattle.signing_core.specs.Keys.{key_at};
-ghost use Rattle.ledger_rows.specs.Admission.{IsRowOf, admits, auth_hash, backend_of, key_index, login_of, verdict_on_auth, verdict_on_user};
+ghost use Rattle.ledger_rows.specs.Admission.{IsRowOf, admits, auth_hash, backend_of, login_of, verdict_on_auth, verdict_on_user};
 ghost use Rattle.ledger_rows.specs.Step.{admitted_user, user_read};
 
+use crate::auth_keys::{AuthKeyList, AuthKeys};
 use crate::reply::UserRead;
 use crate::rows::{Backend, UserRow};
 use crate::verdict::Verdict;
-use crypto_text::{Text, hex_of, salted_hmac, same};
+use crypto_text::{Text, hex_of, salted_hmac};
 use session_codec::AuthPart;
-use signing_core::Keys;
 use std::alloc::{AllocError, Global};
 
-const SESSION_AUTH_SALT: &[u8] =
+pub(crate) const SESSION_AUTH_SALT: &[u8] =
     b"django.contrib.auth.models.AbstractBaseUser.get_session_auth_hash";
 
 /// What is found of a session that was read.
@@ -54,14 +54,14 @@ fn hex_text(alloc: Global, mac: [u8; 32]) -> Result<Text, AllocError>
 
 /// The verdict on a session that was read: its login, the configured backends in their order, the user
 /// whom the login names, and the present keys. Takes no memory.
-pub fn admit(
+pub fn admit<K: AuthKeyList>(
     part: Option<&AuthPart<'_>>,
     backends: &[Backend],
     user: Option<&UserRow>,
-    keys: &Keys,
+    keys: &K,
 ) -> Verdict
     requires row { IsRowOf (login_of (option_copied part)) (option_copied user) }
-    ensures { result ≡ verdict_on_auth backends.now keys.now (login_of (option_copied part.entry)) (option_copied user.entry) }
+    ensures { result ≡ verdict_on_auth backends.now (K.listed keys.now) (login_of (option_copied part.entry)) (option_copied user.entry) }
 {
     match part {
         Some(part) => match backend_of(backends, part.backend) {
@@ -79,7 +79,7 @@ pub fn judge(
     part: Option<&AuthPart<'_>>,
     backends: &[Backend],
     user: Option<UserRow>,
-    keys: &Keys,
+    keys: &AuthKeys,
 ) -> Result<Judgement, AllocError>
     requires row { IsRowOf (login_of (option_copied part)) user }
     ensures verdict { IfOk result (λ found. found.verdict ≡ verdict_on_auth backends.now keys.now (login_of (option_copied part.entry)) user) }
@@ -101,7 +101,7 @@ pub fn judge(
 // The hash is that of the key at this index.
 fn read_under(
     alloc: Global,
-    keys: &Keys,
+    keys: &AuthKeys,
     key_index: usize,
     hash: &str,
     row: UserRow,
@@ -112,7 +112,7 @@ fn read_under(
     let auth_hash = if key_index == 0 {
         Text::of(alloc, hash)?
     } else {
-        session_auth_text(alloc, row.password.as_str(), keys.first())?
+        session_auth_text(alloc, row.password.as_str(), keys.keys().first())?
     };
     Ok(UserRead { row, auth_hash })
 }
@@ -128,11 +128,16 @@ fn backend_of(backends: &[Backend], path: &str) -> Option<Backend>
     None
 }
 
-fn verdict_on_user(backend: Backend, keys: &Keys, hash: &str, user: Option<&UserRow>) -> Verdict
-    ensures { result ≡ verdict_on_user backend keys.now hash.now (option_copied user.entry) }
+fn verdict_on_user<K: AuthKeyList>(
+    backend: Backend,
+    keys: &K,
+    hash: &str,
+    user: Option<&UserRow>,
+) -> Verdict
+    ensures { result ≡ verdict_on_user backend (K.listed keys.now) hash.now (option_copied user.entry) }
 {
     match user {
-        Some(user) if admits(backend, user) => match key_index(keys, user.password.as_str(), hash) {
+        Some(user) if admits(backend, user) => match keys.key_index(user.password.as_str(), hash) {
             Some(key_index) => Verdict::Admitted { key_index },
             None => Verdict::BadHash,
         },
@@ -148,22 +153,4 @@ fn admits(backend: Backend, user: &UserRow) -> bool
         Backend::Model => user.active,
         Backend::AllowAll => true,
     }
-}
-
-#[tactic(auto, using(crate::proofs::AdmissionLemmas::key_is_first, crate::proofs::AdmissionLemmas::no_key_fits))]
-fn key_index(keys: &Keys, password: &str, hash: &str) -> Option<usize>
-    ensures { result ≡ key_index keys.now password.now hash.now }
-{
-    for at in 0..keys.len() {
-        if is_hash_under(keys.key(at), password, hash) {
-            return Some(at);
-        }
-    }
-    None
-}
-
-fn is_hash_under(key: &[u8], password: &str, hash: &str) -> bool
-    ensures { IsTrue result ↔ (auth_hash password.now key.now ≡ hash.now) }
-{
-    same(&session_auth_hash(password, key), hash.as_bytes())
 }

@@ -3,6 +3,7 @@
 #![tactic(auto)]
 
 mod admission;
+mod auth_keys;
 mod entry;
 mod form;
 pub mod laws;
@@ -16,6 +17,7 @@ mod verdict;
 mod well_formed;
 
 pub use crate::admission::{Judgement, admit, judge, session_auth_hash, session_auth_text};
+pub use crate::auth_keys::{AuthKeyList, AuthKeys};
 pub use crate::entry::{Entry, Tag};
 pub use crate::form::{is_email, is_permission_word, is_session_key, is_user_name};
 pub use crate::operation::Op;

@@ -15,7 +15,7 @@ use crate::start::start;
 use crate::step::take;
 use crate::step_fault::StepFault;
 use keepers::{Keeper, KeeperFault};
-use ledger_rows::{Cfg, Entry, Op, Opening, Reply, Tag};
+use ledger_rows::{AuthKeys, Cfg, Entry, Op, Opening, Reply, Tag};
 use std::alloc::Global;
 use std::marker::Model;
 
@@ -31,6 +31,8 @@ pub struct Ledger<K: Keeper> {
     keeper: K,
     cfg: Cfg,
     boot: u64,
+    /// The keys that the last load made ready.
+    ready: Option<AuthKeys>,
 }
 
 impl<K: Keeper> Model for Ledger<K> {
@@ -61,7 +63,12 @@ impl<K: Keeper> Ledger<K> {
     {
         let mut keeper = keeper;
         match start(alloc, &mut keeper, cfg.engine, opening) {
-            Ok(boot) => Ok(Ledger { keeper, cfg, boot }),
+            Ok(boot) => Ok(Ledger {
+                keeper,
+                cfg,
+                boot,
+                ready: None,
+            }),
             Err(fault) => Err(fault.with_keeper(keeper)),
         }
     }
@@ -109,7 +116,7 @@ impl<K: Keeper> Ledger<K> {
             return Err(StepFault::Full);
         }
         let before = self.keeper.faults();
-        match take(alloc, &mut self.keeper, &self.cfg, tag, op) {
+        match take(alloc, &mut self.keeper, &mut self.ready, &self.cfg, tag, op) {
             Ok(Some(reply)) => Ok(reply),
             Ok(None) => Err(StepFault::Full),
             Err(KeeperFault::Memory) => Err(StepFault::Memory),

@@ -15,15 +15,17 @@ ghost use Rattle.session_engines.specs.Taking.{IsAnswer, uncached};
 use crate::answer::Answer;
 use crypto_text::Text;
 use keepers::{Keeper, KeeperFault};
-use ledger_rows::{Cfg, Judgement, Op, Reply, UserRow, Verdict, judge};
+use ledger_rows::{AuthKeys, Cfg, Judgement, Op, Reply, UserRow, Verdict, judge};
 use session_codec::{DecodeFault, SessionKind, SessionMap, decode, payload};
 use signing_core::Keys;
 use std::alloc::{AllocError, Global};
 
-/// Answers a load of a cookie at a moment. A cookie under which nothing is stored costs one look-up.
+/// Answers a load of a cookie at a moment. A cookie under which nothing is stored costs one look-up. The keys that the last
+/// load made ready are used again where they are still the keeper's.
 pub fn load<K: Keeper>(
     alloc: Global,
     keeper: &mut K,
+    ready: &mut Option<AuthKeys>,
     cfg: &Cfg,
     cookie: Option<&Text>,
     now: u64,
@@ -32,13 +34,14 @@ pub fn load<K: Keeper>(
     ensures ok { IfOk result (IsAnswer cfg.now (Op.Load (option_copied cookie.entry) now) (K.seen keeper.old)) }
     ensures reads { OnlyReads (K.seen keeper.old) (K.seen keeper.new) result }
 {
-    let reply = loaded(alloc, keeper, cfg, cookie, now)?;
+    let reply = loaded(alloc, keeper, ready, cfg, cookie, now)?;
     Ok(Answer::unchanged(alloc, reply))
 }
 
 fn loaded<K: Keeper>(
     alloc: Global,
     keeper: &mut K,
+    ready: &mut Option<AuthKeys>,
     cfg: &Cfg,
     cookie: Option<&Text>,
     now: u64,
@@ -49,7 +52,7 @@ fn loaded<K: Keeper>(
     ensures reads { OnlyReads (K.seen keeper.old) (K.seen keeper.new) result }
 {
     match live_text(alloc, keeper, cookie, now)? {
-        Some(text) => load_text(alloc, keeper, cfg, cookie, text.as_str(), now),
+        Some(text) => load_text(alloc, keeper, ready, cfg, cookie, text.as_str(), now),
         None => Ok(unstored(alloc, cookie)?),
     }
 }
@@ -76,6 +79,7 @@ fn live_text<K: Keeper>(
 fn load_text<K: Keeper>(
     alloc: Global,
     keeper: &mut K,
+    ready: &mut Option<AuthKeys>,
     cfg: &Cfg,
     cookie: Option<&Text>,
     text: &str,
@@ -86,18 +90,35 @@ fn load_text<K: Keeper>(
     ensures kind { IfOk result IsLoadReply }
     ensures reads { OnlyReads (K.seen keeper.old) (K.seen keeper.new) result }
 {
-    let keys = keeper.keys(alloc)?;
-    match map_of(alloc, &keys, text, now)? {
-        Some(map) => load_map(alloc, keeper, cfg, &keys, cookie, &map),
+    let listed = keeper.keys(alloc)?;
+    let keys = made_ready(alloc, ready, listed)?;
+    let present = keys.keys();
+    match map_of(alloc, present, text, now)? {
+        Some(map) => load_map(alloc, keeper, cfg, keys, cookie, &map),
         None => Ok(corrupt(alloc, cookie)?),
     }
+}
+
+// The keys made ready: those of an earlier load, where they are the same.
+fn made_ready(
+    alloc: Global,
+    ready: &mut Option<AuthKeys>,
+    keys: Keys,
+) -> Result<&AuthKeys, AllocError>
+    ensures { IfOk result (λ made. made.now ≡ keys) }
+{
+    let made = match ready.take() {
+        Some(earlier) if earlier.are(&keys) => earlier,
+        _ => AuthKeys::new(alloc, keys)?,
+    };
+    Ok(ready.insert(made))
 }
 
 fn load_map<K: Keeper>(
     alloc: Global,
     keeper: &mut K,
     cfg: &Cfg,
-    keys: &Keys,
+    keys: &AuthKeys,
     cookie: Option<&Text>,
     map: &SessionMap,
 ) -> Result<Reply, KeeperFault>
@@ -201,7 +222,7 @@ fn payload_text(alloc: Global, map: &SessionMap) -> Result<Text, AllocError>
 fn judged(
     alloc: Global,
     cfg: &Cfg,
-    keys: &Keys,
+    keys: &AuthKeys,
     cookie: Option<&Text>,
     map: &SessionMap,
     user: Option<UserRow>,
@@ -223,7 +244,7 @@ fn judged(
 fn judgement(
     alloc: Global,
     cfg: &Cfg,
-    keys: &Keys,
+    keys: &AuthKeys,
     map: &SessionMap,
     user: Option<UserRow>,
 ) -> Result<Judgement, AllocError>

@@ -15,14 +15,15 @@ use crate::users::{
     add_user, find_user, perms, set_active, set_last_login, set_membership, set_password,
 };
 use keepers::{Keeper, KeeperFault};
-use ledger_rows::{Cfg, Entry, Op, Reply, Tag};
+use ledger_rows::{AuthKeys, Cfg, Entry, Op, Reply, Tag};
 use std::alloc::Global;
 
 /// Does an operation and enters it. The reply is made first, so that a refusal enters nothing. None where the
-/// ids that the operation draws have run out.
+/// ids that the operation draws have run out. `ready` holds the keys that the last load made ready.
 pub fn take<K: Keeper>(
     alloc: Global,
     keeper: &mut K,
+    ready: &mut Option<AuthKeys>,
     cfg: &Cfg,
     tag: Tag,
     op: &Op,
@@ -35,7 +36,7 @@ pub fn take<K: Keeper>(
     ensures none { IfOk result (λ reply. IfNone reply (HasRunOut op.now (K.seen keeper.old) (K.seen keeper.new))) }
     ensures err { IfErr result (IsRefused (K.seen keeper.old) (K.seen keeper.new)) }
 {
-    match answer_to(alloc, keeper, cfg, op)? {
+    match answer_to(alloc, keeper, ready, cfg, op)? {
         Some(answer) => Ok(Some(enter(alloc, keeper, tag, op, answer)?)),
         None => Ok(None),
     }
@@ -66,6 +67,7 @@ fn enter<K: Keeper>(
 fn answer_to<K: Keeper>(
     alloc: Global,
     keeper: &mut K,
+    ready: &mut Option<AuthKeys>,
     cfg: &Cfg,
     op: &Op,
 ) -> Result<Option<Answer>, KeeperFault>
@@ -78,7 +80,9 @@ fn answer_to<K: Keeper>(
 {
     match op {
         Op::Boot => unreachable!(),
-        Op::Load { cookie, now } => load(alloc, keeper, cfg, cookie.as_ref(), *now).map(Some),
+        Op::Load { cookie, now } => {
+            load(alloc, keeper, ready, cfg, cookie.as_ref(), *now).map(Some)
+        }
         Op::Create {
             key,
             payload,
