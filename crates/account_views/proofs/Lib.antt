@@ -20,4 +20,5 @@ pub mod ShownLemmas
 pub mod TextLemmas
 pub mod VisitLemmas
 pub mod WalkLemmas
+pub mod WhoamiLemmas
 pub mod WriteLemmas

@@ -19,10 +19,11 @@ use crate::progress::Progress;
 use crate::session_write::{WriteStage, write_next, write_session};
 use crate::view::{ViewStage, has_view, view, view_next};
 use crate::visit::visit_of;
+use crate::whoami::{unchanged_user, user_response};
 use crypto_text::{Text, TextList};
 use http_edge::{Request, Response};
 use ledger_rows::{Op, Reply};
-use middleware_chain::{Begun, Settings, begin, delivery_of, plain_page};
+use middleware_chain::{Begun, Route, Settings, begin, delivery_of, plain_page};
 use outside::Words;
 use std::alloc::{AllocError, Global};
 use std::mem::replace;
@@ -171,6 +172,7 @@ fn first<W: Words>(
 }
 
 // Who came goes to the view.
+#[tactic(auto, using(crate::proofs::WhoamiLemmas::unchanged_page))]
 fn loaded<W: Words>(
     alloc: Global,
     settings: &Settings,
@@ -184,6 +186,9 @@ fn loaded<W: Words>(
     ensures { let basis = basis_of settings.now facts.now (W.seen words.now) in
         IfOk result (λ progress. steps_of (stage_left basis) progress ≡ after_load basis came call reply) }
 {
+    if let (Route::Whoami, Some(read)) = (&call.route, unchanged_user(&reply)) {
+        return Ok(Progress::Ends(user_response(alloc, settings, facts, read)?));
+    }
     let visit = visit_of(alloc, came, reply)?;
     let progress = view(alloc, settings, facts, words, call, visit)?;
     after_view(alloc, settings, facts, words, progress)
